@@ -1,0 +1,40 @@
+-- The checks of a route, in their order, and what a route holds.
+use mathlib.Core.Bool.{Bool, true, false, cond}
+use mathlib.Core.List.{List, [], _∷_}
+use Prim.Native.Nat.{ℕ}
+use lib.ListN.{take}
+use Rattle.std.specs.declared.option.Option.{Option}
+use Rattle.std.specs.declared.option.Option.the-variants.{Some, None}
+use Rattle.std.specs.declared.result.Result.{Result}
+use Rattle.std.specs.declared.result.Result.the-variants.{Ok, Err}
+use Rattle.plan.specs.Channels.{few-hops, known, rises}
+use Rattle.plan.specs.declared.route.Route.{Route}
+use Rattle.plan.specs.declared.route.checks.RouteRefusal.{RouteRefusal}
+use Rattle.plan.specs.declared.route.checks.RouteRefusal.the-variants.{Length, UnknownChannel, NotRising}
+
+-- the number under which callers know a refusal
+abbrev pub route-refusal-number : RouteRefusal → ℕ
+route-refusal-number Length = 5
+route-refusal-number UnknownChannel = 6
+route-refusal-number NotRising = 7
+
+-- the checks of a route, in their order
+abbrev pub route-checked : List ℕ → Result (Unit {0}) RouteRefusal
+route-checked cs = cond (few-hops cs) (cond (known cs) (cond (rises cs) (Ok tt) (Err NotRising)) (Err UnknownChannel)) (Err Length)
+
+abbrev pub with-channels : List ℕ → Result (Unit {0}) RouteRefusal → Result (List ℕ) RouteRefusal
+with-channels cs (Ok _) = Ok cs
+with-channels cs (Err e) = Err e
+
+-- a list that passes is a route over its channels
+abbrev pub route-answer : List ℕ → Result (List ℕ) RouteRefusal
+route-answer cs = with-channels cs (route-checked cs)
+
+-- the channels that a route holds, in the order of crossing
+abbrev pub channels-of : Route → List ℕ
+channels-of r = take (r .hops) (r .channels)
+
+-- an answer with the channels in the place of the route
+abbrev pub routed : Result Route RouteRefusal → Result (List ℕ) RouteRefusal
+routed (Ok r) = Ok (channels-of r)
+routed (Err e) = Err e

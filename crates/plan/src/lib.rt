@@ -1,0 +1,2 @@
+//! Slot tables: settings, reservations, loads and the sheet of figures.
+pub mod route;
