@@ -1,2 +1,5 @@
 pub mod Channels
 pub mod Routes
+pub mod Ranges
+pub mod Tables
+pub mod Reserving

@@ -1,2 +1,7 @@
 pub mod Channels
 pub mod Routes
+pub mod Settings
+pub mod Refusals
+pub mod Tables
+pub mod Plans
+pub mod Reserving

@@ -3,6 +3,7 @@ ghost use Rattle.plan.specs.Channels.{few-hops, known, rises, crosses};
 ghost use lib.ListN.{length};
 ghost use Rattle.plan.specs.Routes.{channels-of, routed, route-checked, route-answer, route-refusal-number};
 use super::Route;
+use std::fmt;
 
 /// How many channels a route may have.
 pub const MOST_HOPS: usize = 16;
@@ -30,6 +31,16 @@ impl RouteRefusal {
             RouteRefusal::Length => 5,
             RouteRefusal::UnknownChannel => 6,
             RouteRefusal::NotRising => 7,
+        }
+    }
+}
+
+pub impl fmt::Display for RouteRefusal as RouteRefusalDisplay {
+    fn fmt<W: fmt::Write>(&self, f: &mut fmt::Formatter<W>) -> fmt::Result {
+        match self {
+            RouteRefusal::Length => write!(f, "the route has no channel or more than 16"),
+            RouteRefusal::UnknownChannel => write!(f, "the route has a channel above 319"),
+            RouteRefusal::NotRising => write!(f, "the route's numbers do not rise"),
         }
     }
 }
@@ -84,6 +95,11 @@ impl Route {
         let mut places = [0; MOST_HOPS];
         places[0..hops].copy_from_slice(channels);
         Ok(Route { hops, channels: places })
+    }
+
+    /// A route over channel 0 alone, which stands in rows that are not taken.
+    pub(crate) fn vacant() -> Route {
+        Route { hops: 1, channels: [0; MOST_HOPS] }
     }
 
     /// The channels in the order of crossing.

@@ -1,0 +1,62 @@
+ghost use mathlib.Core.Path.{_≡_};
+ghost use Rattle.plan.specs.Refusals.{plan-refusal-number, as-plan-refusal};
+use crate::route::checks::RouteRefusal;
+use crate::route::checks::RouteRefusalDebug;
+use crate::route::checks::RouteRefusalDisplay;
+use crate::route::checks::RouteRefusalPartialEq;
+use crate::route::checks::RouteRefusalEq;
+use std::fmt;
+
+/// Why a plan refused a call.
+#[derive(Clone, Copy, Debug, PartialEq, Eq)]
+pub enum PlanRefusal {
+    /// A setting outside its range.
+    Settings,
+    /// All 64 rows are taken.
+    TableFull,
+    /// No slots, or more than a frame has.
+    Slots,
+    /// No flits, or more than 64, for the largest packet.
+    Packet,
+    /// The list of channels is no route.
+    Route(RouteRefusal),
+    /// The first channel of the route whose load would pass the frame's slots.
+    Overload(u32),
+}
+
+impl PlanRefusal {
+    /// The number under which callers know the refusal.
+    pub fn number(self) -> u32
+        ensures { λ r. ⌜ r ≡ plan-refusal-number self ⌝ }
+    {
+        match self {
+            PlanRefusal::Settings => 1,
+            PlanRefusal::TableFull => 2,
+            PlanRefusal::Slots => 3,
+            PlanRefusal::Packet => 4,
+            PlanRefusal::Route(refusal) => refusal.number(),
+            PlanRefusal::Overload(_) => 8,
+        }
+    }
+}
+
+pub impl From<RouteRefusal> for PlanRefusal as PlanFromRoute {
+    ghost converts = { λ x y. y ≡ as-plan-refusal x };
+
+    fn from(refusal: RouteRefusal) -> PlanRefusal {
+        PlanRefusal::Route(refusal)
+    }
+}
+
+pub impl fmt::Display for PlanRefusal as PlanRefusalDisplay {
+    fn fmt<W: fmt::Write>(&self, f: &mut fmt::Formatter<W>) -> fmt::Result {
+        match self {
+            PlanRefusal::Settings => write!(f, "a setting is out of range"),
+            PlanRefusal::TableFull => write!(f, "all 64 rows are taken"),
+            PlanRefusal::Slots => write!(f, "the slots are out of range"),
+            PlanRefusal::Packet => write!(f, "the largest packet is out of range"),
+            PlanRefusal::Route(refusal) => write!(f, "{refusal}"),
+            PlanRefusal::Overload(channel) => write!(f, "channel {channel} would carry more than a frame's slots"),
+        }
+    }
+}
