@@ -3,3 +3,4 @@ pub mod Routes
 pub mod Ranges
 pub mod Tables
 pub mod Reserving
+pub mod Admitted

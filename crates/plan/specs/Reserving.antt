@@ -67,14 +67,20 @@ abbrev pub with-flow : Table → Flow → Table
 with-flow t f = record { settings = t .settings; flows = t .flows ++ f ∷ [] }
 
 -- a reservation answers the number of its flow, which counts the flows before it
-abbrev pub reserve-answer : Table → Result Flow PlanRefusal → Result ℕ PlanRefusal
-reserve-answer t (Ok f) = Ok (length (t .flows))
-reserve-answer t (Err e) = Err e
+abbrev pub numbered : Table → Result Flow PlanRefusal → Result ℕ PlanRefusal
+numbered t (Ok f) = Ok (length (t .flows))
+numbered t (Err e) = Err e
 
--- and adds it behind them; refused, it leaves the table
-abbrev pub reserve-table : Table → Result Flow PlanRefusal → Table
-reserve-table t (Ok f) = with-flow t f
-reserve-table t (Err e) = t
+abbrev pub reserve-answer : Table → ℕ → ℕ → List ℕ → Result ℕ PlanRefusal
+reserve-answer t slots largest route = numbered t (admitted t slots largest route)
+
+-- and adds the flow behind them; refused, it leaves the table
+abbrev pub joined : Table → Result Flow PlanRefusal → Table
+joined t (Ok f) = with-flow t f
+joined t (Err e) = t
+
+abbrev pub reserve-table : Table → ℕ → ℕ → List ℕ → Table
+reserve-table t slots largest route = joined t (admitted t slots largest route)
 
 -- an answer with the flow in the place of its row
 abbrev pub flow-in : Result Row PlanRefusal → Result Flow PlanRefusal

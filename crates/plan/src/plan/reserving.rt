@@ -2,7 +2,7 @@ ghost use mathlib.Core.Path.{_≡_};
 ghost use Prim.Native.Nat.{_≤_};
 ghost use lib.ListN.{length};
 ghost use Rattle.plan.specs.Plans.{table-of};
-ghost use Rattle.plan.specs.Reserving.{new-table, set-answer, set-table, terms-checked, load-checked, admitted, flow-in};
+ghost use Rattle.plan.specs.Reserving.{new-table, set-answer, set-table, terms-checked, load-checked, admitted, flow-in, reserve-answer, reserve-table};
 ghost use mathlib.Core.List.{map};
 ghost use Rattle.plan.specs.Tables.{flow-of, load};
 use super::Plan;
@@ -107,5 +107,18 @@ impl Plan {
         let path = Route::new(route)?;
         self.check_load(slots, route)?;
         Ok(Row { slots, largest, route: path })
+    }
+
+    /// Reserves slots of every frame for a flow on each channel of its route, and
+    /// answers the flow's number.
+    pub fn reserve(&mut self, slots: u32, largest: u32, route: &[u32]) -> Result<u32, PlanRefusal>
+        ensures answer { λ r. ⌜ r ≡ reserve-answer (table-of (now (self .entry))) slots largest (now (route .entry)) ⌝ }
+        ensures state { λ _. ⌜ table-of (now (self .exit)) ≡ reserve-table (table-of (now (self .entry))) slots largest (now (route .entry)) ⌝ }
+    {
+        let row = self.admitted(slots, largest, route)?;
+        let flow = self.count;
+        self.rows[flow] = row;
+        self.count = flow + 1;
+        Ok(flow as u32)
     }
 }
