@@ -9,7 +9,7 @@ use lib.Dec.{ltb, leb, eqb}
 use lib.ListN.{length, take, set}
 use Rattle.std.specs.declared.result.Result.{Result}
 use Rattle.std.specs.declared.result.Result.the-variants.{Ok, Err}
-use Rattle.std.proofs.shelf.Lists.{take-more-set, map-push, length-map, length-take-le}
+use Rattle.std.proofs.shelf.Lists.{take-more-set, map-push}
 use Rattle.std.proofs.shelf.Sums.{sumBy-push}
 use Rattle.std.proofs.shelf.Tests.{ltb-true, leb-true, eqb-true, or-cases, and-parts, and-from, cases-bool}
 use Rattle.plan.specs.Channels.{within, crosses}
@@ -19,6 +19,7 @@ use Rattle.plan.specs.Plans.{table-of}
 use Rattle.plan.specs.declared.plan.Plan.{Plan}
 use Rattle.plan.specs.Reserving.{check, terms-checked, load-checked, and-then, of-route, admitted}
 use Rattle.plan.specs.declared.row.Row.{Row}
+use Rattle.plan.proofs.Tables.{flows-counted}
 use Rattle.plan.specs.declared.refusal.PlanRefusal.{PlanRefusal}
 use Rattle.plan.specs.declared.refusal.PlanRefusal.the-variants.{TableFull, Slots, Packet, Overload}
 
@@ -89,11 +90,8 @@ module _ (t : Table) (slots largest : ℕ) (route : List ℕ) (f : Flow) (a : Ad
 
 -- a reservation that was admitted, as the plan holds it
 module _ (p : Plan) (slots largest : ℕ) (route : List ℕ) (row : Row) (h : Ok (flow-of row) ≡ admitted (table-of p) slots largest route) where
-  pub flows-counted : length (table-of p .flows) ≡ p .count
-  flows-counted = length-map (take (p .count) (p .rows)) flow-of ∙ length-take-le (p .count) (p .rows) (omega (arith, p .few, p .sized))
-
   pub room-left : p .count < 64
-  room-left = omega (arith, flows-counted, admitted-is (table-of p) slots largest route (flow-of row) h .room)
+  room-left = omega (arith, flows-counted p, admitted-is (table-of p) slots largest route (flow-of row) h .room)
 
   pub pushed : flows-in (p .count + 1) (set (p .rows) (p .count) row) ≡ table-of p .flows ++ flow-of row ∷ []
   pushed = flows-pushed (p .rows) (p .count) row (omega (arith, room-left, p .sized))

@@ -4,3 +4,5 @@ pub mod Ranges
 pub mod Tables
 pub mod Reserving
 pub mod Admitted
+pub mod Figures
+pub mod Busiest

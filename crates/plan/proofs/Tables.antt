@@ -6,9 +6,11 @@ use Prim.Native.Nat.{ℕ, _+_, _-_, _*_, _<_, _≤_}
 use native.Mathlib.Omega.{arith}
 use lib.ListN.{length, getD, take}
 use Rattle.std.specs.shelf.Lists.{sumBy}
-use Rattle.std.proofs.shelf.Lists.{map-more, take-map, take-all}
+use Rattle.std.proofs.shelf.Lists.{map-more, take-map, take-all, length-map, length-take-le}
 use Rattle.std.proofs.shelf.Sums.{sumBy-push, sumBy-take-le}
 use Rattle.plan.specs.Tables.{Flow, flow-of, slots-on, load}
+use Rattle.plan.specs.Plans.{table-of}
+use Rattle.plan.specs.declared.plan.Plan.{Plan}
 use Rattle.plan.specs.declared.row.Row.{Row}
 
 module _ (g : Flow → ℕ) (rows : List Row) (i : ℕ) where
@@ -23,3 +25,6 @@ module _ (g : Flow → ℕ) (rows : List Row) (i : ℕ) where
   -- all rows
   pub sum-end : (fs : List Flow) → map flow-of rows ≡ fs → length rows ≤ i → sumBy g (map flow-of (take i rows)) ≡ sumBy g fs
   sum-end fs e l = ap (λ rs. sumBy g (map flow-of rs)) (take-all i rows l) ∙ ap (sumBy g) e
+
+pub flows-counted : (p : Plan) → length (table-of p .flows) ≡ p .count
+flows-counted p = length-map (take (p .count) (p .rows)) flow-of ∙ length-take-le (p .count) (p .rows) (omega (arith, p .few, p .sized))

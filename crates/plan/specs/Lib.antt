@@ -5,3 +5,4 @@ pub mod Refusals
 pub mod Tables
 pub mod Plans
 pub mod Reserving
+pub mod Sheets

@@ -4,3 +4,4 @@ pub mod refusal;
 pub mod route;
 pub mod row;
 pub mod settings;
+pub mod sheet;

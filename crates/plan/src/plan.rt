@@ -7,6 +7,7 @@ ghost use Rattle.plan.specs.Tables.{flows-in, load, all-fit};
 use crate::row::Row;
 use crate::settings::Settings;
 
+pub mod figures;
 pub mod reserving;
 
 /// How many flows a plan can hold.

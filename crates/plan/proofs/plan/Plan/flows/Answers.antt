@@ -1,7 +1,6 @@
-use native.Mathlib.Omega.{arith}
-use Rattle.std.proofs.shelf.Lists.{length-map, length-take-le}
-use borrow.Author.Needs.{needs}
+use mathlib.Core.Path.{sym}
+use Rattle.plan.proofs.Tables.{flows-counted}
 use Rattle.plan.proofs.plan.Plan.flows.Needs as need
 
 pub returns : need.returns
-returns c = search (needs, length-map, length-take-le)
+returns c = sym (flows-counted (c .args .self .now))

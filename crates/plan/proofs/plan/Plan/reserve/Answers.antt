@@ -7,7 +7,8 @@ use Rattle.std.proofs.shelf.Lists.{length-set}
 use Rattle.plan.specs.Plans.{table-of}
 use Rattle.plan.specs.Tables.{Table, Flow}
 use Rattle.plan.specs.Reserving.{numbered, joined}
-use Rattle.plan.proofs.Admitted.{flows-counted, room-left, pushed, fit-after, loaded-after}
+use Rattle.plan.proofs.Tables.{flows-counted}
+use Rattle.plan.proofs.Admitted.{room-left, pushed, fit-after, loaded-after}
 use Rattle.plan.proofs.plan.Plan.reserve.Needs as need
 
 pub listed : need.listed
@@ -35,7 +36,6 @@ returns c =
     let t = table-of p in
     let row = c .in-Continue-row .row in
     let h = c .in-Continue-row .ensures tt in
-    let counted = flows-counted p (c .args .slots) (c .args .largest) (c .args .route .now) row h in
     let behind = pushed p (c .args .slots) (c .args .largest) (c .args .route .now) row h in
     let with-flows : List Flow → Table = λ fs. record { settings = p .settings; flows = fs } in
-    record { answer = ap Ok (sym counted) ∙ ap (numbered t) h; state = ap with-flows behind ∙ ap (joined t) h }
+    record { answer = ap Ok (sym (flows-counted p)) ∙ ap (numbered t) h; state = ap with-flows behind ∙ ap (joined t) h }
