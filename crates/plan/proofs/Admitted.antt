@@ -12,8 +12,8 @@ use Rattle.std.specs.declared.result.Result.the-variants.{Ok, Err}
 use Rattle.std.proofs.shelf.Lists.{take-more-set, map-push}
 use Rattle.std.proofs.shelf.Sums.{sumBy-push}
 use Rattle.std.proofs.shelf.Tests.{ltb-true, leb-true, eqb-true, or-cases, and-parts, and-from, cases-bool}
-use Rattle.plan.specs.Channels.{within, crosses}
-use Rattle.plan.specs.Routes.{route-checked}
+use Rattle.routes.specs.Channels.{within, crosses}
+use Rattle.routes.specs.Routes.{route-checked}
 use Rattle.plan.specs.Tables.{Table, Flow, flow-of, flows-in, load, slots-on, all-fit}
 use Rattle.plan.specs.Plans.{table-of}
 use Rattle.plan.specs.declared.plan.Plan.{Plan}

@@ -9,17 +9,18 @@ use lib.Dec.{ltb}
 use lib.ListN.{length, getD, take, set}
 use Rattle.std.specs.shelf.Lists.{sumBy}
 use Rattle.std.proofs.shelf.Bits.{mul-le}
-use Rattle.std.proofs.shelf.Lists.{length-take, length-map, take-more-set, map-more, map-push}
+use Rattle.std.proofs.shelf.Lists.{length-map, take-more-set, map-more, map-push}
 use Rattle.std.proofs.shelf.Sums.{sumBy-cons}
 use Rattle.std.proofs.shelf.Tests.{and-parts, lt-ltb, le-ltb}
-use Rattle.plan.specs.Channels.{within}
-use Rattle.plan.specs.Routes.{channels-of}
+use Rattle.routes.specs.Channels.{within}
+use Rattle.routes.specs.Routes.{channels-of}
 use Rattle.plan.specs.Tables.{Flow, flow-of, all-fit}
 use Rattle.plan.specs.Sheets.{flow-crossings, flow-figures, crossings, heaviest}
 use Rattle.plan.specs.declared.row.Row.{Row}
 use Rattle.plan.specs.Plans.{table-of}
 use Rattle.plan.specs.declared.plan.Plan.{Plan}
 use Rattle.plan.specs.declared.sheet.FlowFigures.{FlowFigures}
+use Rattle.routes.proofs.Routes.{route-few}
 use Rattle.plan.proofs.Ranges.{within-parts, frame-range}
 use Rattle.plan.proofs.Tables.{flows-counted}
 
@@ -42,11 +43,8 @@ ranged-at frame [] i r h l e = absurd (omega arith)
 ranged-at frame (x ∷ xs) zero r h l e = subst (Ranged frame) (sym e) (ranged frame x (and-parts _ (all-fit frame (map flow-of xs)) h .0))
 ranged-at frame (x ∷ xs) (suc i) r h l e = ranged-at frame xs i r (and-parts (within 1 frame (x .slots) && within 1 64 (x .largest)) (all-fit frame (map flow-of xs)) h .1) (omega arith) e
 
-hops-few : (r : Row) → length (channels-of (r .route)) ≤ 16
-hops-few r = omega (arith, length-take (r .route .hops) (r .route .channels), r .route .few)
-
 row-crossings : (frame : ℕ) (r : Row) → frame ≤ 4096 → Ranged frame r → flow-crossings (flow-of r) ≤ 66544
-row-crossings frame r f g = mul-le (r .slots + r .largest - 1) (length (channels-of (r .route))) 4159 16 (omega (arith, g)) (hops-few r)
+row-crossings frame r f g = mul-le (r .slots + r .largest - 1) (length (channels-of (r .route))) 4159 16 (omega (arith, g)) (route-few (r .route))
 
 pub crossings-few : (frame : ℕ) (rows : List Row) → frame ≤ 4096 → all-fit frame (map flow-of rows) ≡ true → sumBy flow-crossings (map flow-of rows) ≤ length rows * 66544
 crossings-few frame [] f h = omega arith

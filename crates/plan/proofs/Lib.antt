@@ -1,5 +1,3 @@
-pub mod Channels
-pub mod Routes
 pub mod Ranges
 pub mod Tables
 pub mod Reserving

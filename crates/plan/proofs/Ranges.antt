@@ -4,7 +4,7 @@ use mathlib.Core.Bool.{Bool, true, _&&_}
 use Prim.Native.Nat.{ℕ, _≤_}
 use lib.Dec.{leb}
 use Rattle.std.proofs.shelf.Tests.{and-parts, leb-true}
-use Rattle.plan.specs.Channels.{within}
+use Rattle.routes.specs.Channels.{within}
 use Rattle.plan.specs.Settings.{settings-fit}
 use Rattle.plan.specs.declared.settings.Settings.{Settings}
 

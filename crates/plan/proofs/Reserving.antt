@@ -13,7 +13,7 @@ use Rattle.std.specs.declared.result.Result.{Result}
 use Rattle.std.specs.declared.result.Result.the-variants.{Ok, Err}
 use Rattle.std.proofs.shelf.Lists.{at-drop-more, at-drop-all}
 use Rattle.std.proofs.shelf.Tests.{le-leb, lt-leb, and-left, and-right, and-from}
-use Rattle.plan.specs.Channels.{within}
+use Rattle.routes.specs.Channels.{within}
 use Rattle.plan.specs.Tables.{Table, Flow, load}
 use Rattle.plan.specs.Reserving.{check, load-checked}
 use Rattle.plan.specs.declared.refusal.PlanRefusal.the-variants.{Overload}

@@ -1,5 +1,3 @@
-pub mod Channels
-pub mod Routes
 pub mod Settings
 pub mod Refusals
 pub mod Tables

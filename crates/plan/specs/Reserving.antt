@@ -6,14 +6,14 @@ use lib.Dec.{ltb, leb}
 use lib.ListN.{length}
 use Rattle.std.specs.declared.result.Result.{Result}
 use Rattle.std.specs.declared.result.Result.the-variants.{Ok, Err}
-use Rattle.plan.specs.Channels.{within}
+use Rattle.routes.specs.Channels.{within}
 use Rattle.plan.specs.Refusals.{as-plan-refusal}
-use Rattle.plan.specs.Routes.{route-checked}
+use Rattle.routes.specs.Routes.{route-checked}
 use Rattle.plan.specs.Settings.{settings-fit, new-settings}
 use Rattle.plan.specs.Tables.{Flow, Table, flow-of, load}
 use Rattle.plan.specs.declared.row.Row.{Row}
 use Rattle.plan.specs.declared.settings.Settings as settings
-use Rattle.plan.specs.declared.route.checks.RouteRefusal.{RouteRefusal}
+use Rattle.routes.specs.declared.route.checks.RouteRefusal.{RouteRefusal}
 use Rattle.plan.specs.declared.refusal.PlanRefusal.{PlanRefusal}
 use Rattle.plan.specs.declared.refusal.PlanRefusal.the-variants.{Settings, TableFull, Slots, Packet, Overload}
 

@@ -4,8 +4,8 @@ use mathlib.Core.List.{List, [], _∷_, map}
 use Prim.Native.Nat.{ℕ}
 use lib.ListN.{take}
 use Rattle.std.specs.shelf.Lists.{sumBy}
-use Rattle.plan.specs.Channels.{within, crosses}
-use Rattle.plan.specs.Routes.{channels-of}
+use Rattle.routes.specs.Channels.{within, crosses}
+use Rattle.routes.specs.Routes.{channels-of}
 use Rattle.plan.specs.declared.row.Row.{Row}
 use Rattle.plan.specs.declared.settings.Settings.{Settings}
 

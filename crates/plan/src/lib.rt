@@ -1,7 +1,6 @@
 //! Slot tables: settings, reservations, loads and the sheet of figures.
 pub mod plan;
 pub mod refusal;
-pub mod route;
 pub mod row;
 pub mod settings;
 pub mod sheet;

@@ -15,7 +15,7 @@ pub const ROWS: usize = 64;
 
 /// A slot table in the making: settings in range, and flows whose slots fit every
 /// frame on every channel.
-#[derive(Clone, Copy)]
+#[derive(Drop)]
 pub struct Plan {
     settings: Settings,
     count: usize,

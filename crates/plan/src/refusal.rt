@@ -1,10 +1,10 @@
 ghost use mathlib.Core.Path.{_≡_};
 ghost use Rattle.plan.specs.Refusals.{plan-refusal-number, as-plan-refusal};
-use crate::route::checks::RouteRefusal;
-use crate::route::checks::RouteRefusalDebug;
-use crate::route::checks::RouteRefusalDisplay;
-use crate::route::checks::RouteRefusalPartialEq;
-use crate::route::checks::RouteRefusalEq;
+use routes::route::checks::RouteRefusal;
+use routes::route::checks::RouteRefusalDebug;
+use routes::route::checks::RouteRefusalDisplay;
+use routes::route::checks::RouteRefusalPartialEq;
+use routes::route::checks::RouteRefusalEq;
 use std::fmt;
 
 /// Why a plan refused a call.

@@ -1,4 +1,4 @@
-use crate::route::Route;
+use routes::route::Route;
 
 /// One flow of the slot table, as it was reserved.
 #[derive(Clone, Copy)]

@@ -7,7 +7,7 @@ ghost use Rattle.plan.specs.Sheets.{flow-crossings, crossings, flow-figures, b
 ghost use Rattle.plan.specs.Tables.{flow-of};
 use super::Plan;
 use super::ROWS;
-use crate::route::checks::CHANNELS;
+use routes::route::checks::CHANNELS;
 use crate::row::Row;
 use crate::sheet::ChannelLoad;
 use crate::sheet::FlowFigures;

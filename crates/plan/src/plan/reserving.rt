@@ -9,7 +9,7 @@ use super::Plan;
 use super::ROWS;
 use crate::refusal::PlanFromRoute;
 use crate::refusal::PlanRefusal;
-use crate::route::Route;
+use routes::route::Route;
 use crate::row::Row;
 use crate::settings::Settings;
 
@@ -18,7 +18,7 @@ impl Plan {
     pub fn new() -> Plan
         ensures { λ r. ⌜ table-of r ≡ new-table ⌝ }
     {
-        let vacant = Row { slots: 0, largest: 0, route: Route::vacant() };
+        let vacant = Row { slots: 0, largest: 0, route: Route::shortest() };
         Plan { settings: Settings::smallest(), count: 0, rows: [vacant; ROWS] }
     }
 

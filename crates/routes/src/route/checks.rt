@@ -1,7 +1,9 @@
 ghost use mathlib.Core.Path.{_≡_};
-ghost use Rattle.plan.specs.Channels.{few-hops, known, rises, crosses};
+ghost use Rattle.routes.specs.Channels.{few-hops, known, rises, crosses};
+ghost use mathlib.Core.List.{[], _∷_};
+ghost use Prim.Native.Nat.{_≤_};
 ghost use lib.ListN.{length};
-ghost use Rattle.plan.specs.Routes.{channels-of, routed, route-checked, route-answer, route-refusal-number};
+ghost use Rattle.routes.specs.Routes.{channels-of, routed, route-checked, route-answer, route-refusal-number};
 use super::Route;
 use std::fmt;
 
@@ -97,8 +99,10 @@ impl Route {
         Ok(Route { hops, channels: places })
     }
 
-    /// A route over channel 0 alone, which stands in rows that are not taken.
-    pub(crate) fn vacant() -> Route {
+    /// The route over channel 0 alone.
+    pub fn shortest() -> Route
+        ensures { λ r. ⌜ channels-of r ≡ 0 ∷ [] ⌝ }
+    {
         Route { hops: 1, channels: [0; MOST_HOPS] }
     }
 
@@ -111,7 +115,8 @@ impl Route {
 
     /// How many channels the route crosses.
     pub fn hops(&self) -> u32
-        ensures { λ r. ⌜ r ≡ length (channels-of (now (self .entry))) ⌝ }
+        ensures value { λ r. ⌜ r ≡ length (channels-of (now (self .entry))) ⌝ }
+        ensures few { λ r. ⌜ r ≤ 16 ⌝ }
     {
         self.hops as u32
     }

@@ -7,10 +7,10 @@ use Rattle.std.specs.declared.option.Option.{Option}
 use Rattle.std.specs.declared.option.Option.the-variants.{Some, None}
 use Rattle.std.specs.declared.result.Result.{Result}
 use Rattle.std.specs.declared.result.Result.the-variants.{Ok, Err}
-use Rattle.plan.specs.Channels.{few-hops, known, rises}
-use Rattle.plan.specs.declared.route.Route.{Route}
-use Rattle.plan.specs.declared.route.checks.RouteRefusal.{RouteRefusal}
-use Rattle.plan.specs.declared.route.checks.RouteRefusal.the-variants.{Length, UnknownChannel, NotRising}
+use Rattle.routes.specs.Channels.{few-hops, known, rises}
+use Rattle.routes.specs.declared.route.Route.{Route}
+use Rattle.routes.specs.declared.route.checks.RouteRefusal.{RouteRefusal}
+use Rattle.routes.specs.declared.route.checks.RouteRefusal.the-variants.{Length, UnknownChannel, NotRising}
 
 -- the number under which callers know a refusal
 abbrev pub route-refusal-number : RouteRefusal → ℕ

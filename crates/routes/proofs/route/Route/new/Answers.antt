@@ -2,10 +2,10 @@ use mathlib.Core.Path.{_≡_, ap, _∙_}
 use mathlib.Core.Bool.{true}
 use borrow.Author.Needs.{needs}
 use Rattle.std.specs.declared.result.Result.the-variants.{Ok}
-use Rattle.plan.specs.Channels.{well-formed}
-use Rattle.plan.specs.Routes.{with-channels}
-use Rattle.plan.proofs.Routes.{passed-well-formed, well-formed-few, copied}
-use Rattle.plan.proofs.route.Route.new.Needs as need
+use Rattle.routes.specs.Channels.{well-formed}
+use Rattle.routes.specs.Routes.{with-channels}
+use Rattle.routes.proofs.Routes.{passed-well-formed, well-formed-few, copied}
+use Rattle.routes.proofs.route.Route.new.Needs as need
 
 pub ghost-result : need.ghost-result
 ghost-result c =

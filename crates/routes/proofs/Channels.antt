@@ -8,7 +8,7 @@ use lib.Dec.{ltb}
 use lib.ListN.{length, getD, drop}
 use Rattle.std.proofs.shelf.Lists.{at-drop-more, at-drop-all, drop-more, length-drop}
 use Rattle.std.proofs.shelf.Tests.{lt-ltb}
-use Rattle.plan.specs.Channels.{known, rises}
+use Rattle.routes.specs.Channels.{known, rises}
 
 pub known-more : (cs : List ℕ) (i : ℕ) → i < length cs → known (drop i cs) ≡ (ltb (getD cs i 0) 320 && known (drop (i + 1) cs))
 known-more cs i l = at-drop-more known cs i 0 l

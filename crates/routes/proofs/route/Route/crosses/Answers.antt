@@ -3,9 +3,9 @@ use mathlib.Core.Path.{_≡_, refl, sym, subst}
 use lib.Dec.{eqb}
 use Rattle.std.proofs.shelf.Elements.{has-from-contains}
 use Rattle.std.proofs.shelf.Ways.{same-from-decides, decides-by-or, decides-eqb}
-use Rattle.plan.specs.Channels.{crosses}
-use Rattle.plan.specs.Routes.{channels-of}
-use Rattle.plan.proofs.route.Route.crosses.Needs as need
+use Rattle.routes.specs.Channels.{crosses}
+use Rattle.routes.specs.Routes.{channels-of}
+use Rattle.routes.proofs.route.Route.crosses.Needs as need
 
 pub returns : need.returns
 returns c =

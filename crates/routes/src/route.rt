@@ -2,7 +2,7 @@ ghost use mathlib.Core.Path.{_≡_};
 ghost use mathlib.Core.Bool.{true};
 ghost use Prim.Native.Nat.{_≤_};
 ghost use lib.ListN.{take};
-ghost use Rattle.plan.specs.Channels.{well-formed};
+ghost use Rattle.routes.specs.Channels.{well-formed};
 
 pub mod checks;
 

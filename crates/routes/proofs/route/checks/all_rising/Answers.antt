@@ -1,6 +1,6 @@
 use borrow.Author.Needs.{needs}
-use Rattle.plan.proofs.Channels.{rises-more, rises-step, rises-end}
-use Rattle.plan.proofs.route.checks.all_rising.Needs as need
+use Rattle.routes.proofs.Channels.{rises-more, rises-step, rises-end}
+use Rattle.routes.proofs.route.checks.all_rising.Needs as need
 
 pub returns-then-channels-next : need.returns-then-channels-next
 returns-then-channels-next c = search (needs, rises-more)

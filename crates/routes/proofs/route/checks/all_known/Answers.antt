@@ -1,6 +1,6 @@
 use borrow.Author.Needs.{needs}
-use Rattle.plan.proofs.Channels.{known-more, known-end}
-use Rattle.plan.proofs.route.checks.all_known.Needs as need
+use Rattle.routes.proofs.Channels.{known-more, known-end}
+use Rattle.routes.proofs.route.checks.all_known.Needs as need
 
 pub returns-then-channel-ge-CHANNELS : need.returns-then-channel-ge-CHANNELS
 returns-then-channel-ge-CHANNELS c = search (needs, known-more)

@@ -8,12 +8,13 @@ use lib.Dec.{leb}
 use lib.ListN.{length, take}
 use Rattle.std.specs.declared.result.Result.{Result}
 use Rattle.std.specs.declared.result.Result.the-variants.{Ok, Err}
-use Rattle.std.proofs.shelf.Lists.{take-at}
+use Rattle.std.proofs.shelf.Lists.{take-at, length-take}
 use Rattle.std.proofs.shelf.Tests.{and-parts, leb-true}
-use Rattle.plan.specs.Channels.{few-hops, known, rises, well-formed}
-use Rattle.plan.specs.Routes.{route-checked}
-use Rattle.plan.specs.declared.route.checks.RouteRefusal.{RouteRefusal}
-use Rattle.plan.specs.declared.route.checks.RouteRefusal.the-variants.{Length, UnknownChannel, NotRising}
+use Rattle.routes.specs.Channels.{few-hops, known, rises, well-formed}
+use Rattle.routes.specs.Routes.{route-checked, channels-of}
+use Rattle.routes.specs.declared.route.Route.{Route}
+use Rattle.routes.specs.declared.route.checks.RouteRefusal.{RouteRefusal}
+use Rattle.routes.specs.declared.route.checks.RouteRefusal.the-variants.{Length, UnknownChannel, NotRising}
 
 all-pass : (a b d : Bool) → _≡_ {A = Result (Unit {0}) RouteRefusal} (Ok tt) (cond a (cond b (cond d (Ok tt) (Err NotRising)) (Err UnknownChannel)) (Err Length)) → (a && (b && d)) ≡ true
 all-pass true true true e = refl
@@ -31,3 +32,7 @@ well-formed-few cs e =
 
 pub copied : (cs xs rest : List ℕ) → xs ≡ cs → take (length cs) (xs ++ rest) ≡ cs
 copied cs xs rest e = take-at xs rest (length cs) (ap length e) ∙ e
+
+-- what every route is
+pub route-few : (r : Route) → length (channels-of r) ≤ 16
+route-few r = omega (arith, length-take (r .hops) (r .channels), r .few)

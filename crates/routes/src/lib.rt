@@ -1,0 +1,2 @@
+//! Routes: the channels that a flow crosses.
+pub mod route;
