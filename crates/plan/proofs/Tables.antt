@@ -3,15 +3,19 @@ use mathlib.Core.Path.{_≡_, refl, sym, ap, subst, _∙_}
 use mathlib.Core.Bool.{Bool, true, false, cond, _&&_}
 use mathlib.Core.List.{List, [], _∷_, _++_, map}
 use Prim.Native.Nat.{ℕ, _+_, _-_, _*_, _<_, _≤_}
+use native.Mathlib.Nat.{add-zero}
 use native.Mathlib.Omega.{arith}
 use lib.ListN.{length, getD, take}
 use Rattle.std.specs.shelf.Lists.{sumBy}
 use Rattle.std.proofs.shelf.Lists.{map-more, take-map, take-all, length-map, length-take-le}
 use Rattle.std.proofs.shelf.Sums.{sumBy-push, sumBy-take-le}
+use Rattle.routes.specs.Channels.{crosses}
+use Rattle.routes.specs.Routes.{channels-of}
 use Rattle.plan.specs.Tables.{Flow, flow-of, slots-on, load}
 use Rattle.plan.specs.Plans.{table-of}
 use Rattle.plan.specs.declared.plan.Plan.{Plan}
 use Rattle.plan.specs.declared.row.Row.{Row}
+use Rattle.plan.proofs.Ranges.{frame-range}
 
 module _ (g : Flow → ℕ) (rows : List Row) (i : ℕ) where
   -- one row more
@@ -28,3 +32,18 @@ module _ (g : Flow → ℕ) (rows : List Row) (i : ℕ) where
 
 pub flows-counted : (p : Plan) → length (table-of p .flows) ≡ p .count
 flows-counted p = length-map (take (p .count) (p .rows)) flow-of ∙ length-take-le (p .count) (p .rows) (omega (arith, p .few, p .sized))
+
+-- one row more, by whether it crosses the channel
+module _ (rows : List Row) (i : ℕ) (r : Row) (c : ℕ) where
+  more : (b : Bool) → i < length rows → r ≡ getD rows i r → crosses (channels-of (r .route)) c ≡ b → load (map flow-of (take (i + 1) rows)) c ≡ load (map flow-of (take i rows)) c + cond b (r .slots) 0
+  more b l e x = sum-more (slots-on c) rows i r l e ∙ ap (λ t. load (map flow-of (take i rows)) c + cond t (r .slots) 0) x
+
+  pub load-adds : i < length rows → r ≡ getD rows i r → crosses (channels-of (r .route)) c ≡ true → load (map flow-of (take (i + 1) rows)) c ≡ load (map flow-of (take i rows)) c + r .slots
+  load-adds l e x = more true l e x
+
+  pub load-skips : i < length rows → r ≡ getD rows i r → crosses (channels-of (r .route)) c ≡ false → load (map flow-of (take (i + 1) rows)) c ≡ load (map flow-of (take i rows)) c
+  load-skips l e x = more false l e x ∙ add-zero (load (map flow-of (take i rows)) c)
+
+  -- what a plan's rows add up to stays within a frame
+  pub load-within : (p : Plan) → map flow-of rows ≡ table-of p .flows → i < length rows → r ≡ getD rows i r → crosses (channels-of (r .route)) c ≡ true → load (map flow-of (take i rows)) c + r .slots ≤ 4096
+  load-within p m l e x = omega (arith, load-adds l e x, sum-part (slots-on c) rows (i + 1) (table-of p .flows) m, p .loads c, frame-range (p .settings) (p .set))

@@ -8,6 +8,7 @@ use crate::row::Row;
 use crate::settings::Settings;
 
 pub mod figures;
+pub mod reading;
 pub mod reserving;
 
 /// How many flows a plan can hold.

@@ -1,14 +1,18 @@
 -- A list of channels from place i on, one step on and at its end.
 use mathlib.Core.Path.{_≡_, refl, sym, ap, _∙_}
-use mathlib.Core.Bool.{true, _&&_}
+use mathlib.Core.Bool.{Bool, true, _&&_}
 use mathlib.Core.List.{List, [], _∷_}
 use Prim.Native.Nat.{ℕ, _+_, _-_, _<_, _≤_}
 use native.Mathlib.Omega.{arith}
-use lib.Dec.{ltb}
+use lib.Dec.{ltb, eqb}
 use lib.ListN.{length, getD, drop}
 use Rattle.std.proofs.shelf.Lists.{at-drop-more, at-drop-all, drop-more, length-drop}
+use Rattle.std.specs.Orderings.{Decides}
+use Rattle.std.specs.Places.{Some-of}
+use Rattle.std.proofs.shelf.Elements.{has-from-contains}
 use Rattle.std.proofs.shelf.Tests.{lt-ltb}
-use Rattle.routes.specs.Channels.{known, rises}
+use Rattle.std.proofs.shelf.Ways.{same-from-decides, decides-by-or, decides-eqb}
+use Rattle.routes.specs.Channels.{known, rises, crosses}
 
 pub known-more : (cs : List ℕ) (i : ℕ) → i < length cs → known (drop i cs) ≡ (ltb (getD cs i 0) 320 && known (drop (i + 1) cs))
 known-more cs i l = at-drop-more known cs i 0 l
@@ -37,3 +41,9 @@ short (c ∷ d ∷ cs) l = absurd (omega arith)
 
 pub rises-end : (cs : List ℕ) (i : ℕ) → length cs ≤ i → rises (drop (i - 1) cs) ≡ true
 rises-end cs i l = short (drop (i - 1) cs) (simp length-drop (omega arith))
+
+-- what `contains` answers of a slice xs that holds cs
+pub contains-crosses : (cs xs : List ℕ) (c : ℕ) (r : Bool) → Some-of (λ y t. Decides t (y ≡ c)) xs r → xs ≡ cs → r ≡ crosses cs c
+contains-crosses cs xs c r h e =
+    same-from-decides r (crosses xs c) (has-from-contains xs c r h) (decides-by-or (λ x. eqb x c) (λ x. x ≡ c) (λ xs. crosses xs c) (λ x. decides-eqb x c) refl (λ _ _. refl) xs)
+    ∙ ap (λ ds. crosses ds c) e

@@ -1,6 +1,6 @@
-use mathlib.Core.Path.{sym}
+use borrow.Author.Needs.{needs}
 use Rattle.plan.proofs.Tables.{flows-counted}
 use Rattle.plan.proofs.plan.Plan.flows.Needs as need
 
 pub returns : need.returns
-returns c = sym (flows-counted (c .args .self .now))
+returns c = search (needs, flows-counted)
