@@ -9,7 +9,7 @@ use lib.Dec.{ltb}
 use lib.ListN.{length, getD, take, set}
 use Rattle.std.specs.shelf.Lists.{sumBy}
 use Rattle.std.proofs.shelf.Bits.{mul-le}
-use Rattle.std.proofs.shelf.Lists.{length-map, take-more-set, map-more, map-push}
+use Rattle.std.proofs.shelf.Lists.{length-map, take-all, take-more-set, map-more, map-push}
 use Rattle.std.proofs.shelf.Sums.{sumBy-cons}
 use Rattle.std.proofs.shelf.Tests.{and-parts, lt-ltb, le-ltb}
 use Rattle.routes.specs.Channels.{within}
@@ -78,6 +78,13 @@ lines-more window rows i r lines line l e m is h =
     ∙ ap (λ ls. ls ++ line ∷ []) h
     ∙ ap (λ x. map f (map flow-of (take i rows)) ++ x ∷ []) (is ∙ ap (λ x. f (flow-of x)) e)
     ∙ sym (ap (map f) (map-more flow-of rows i r l) ∙ map-push f (map flow-of (take i rows)) (flow-of (getD rows i r)))
+
+-- all lines
+pub lines-end : (p : Plan) (rows : List Row) (i : ℕ) (lines : List FlowFigures) → map flow-of rows ≡ table-of p .flows → length rows ≤ i → i ≤ length rows →
+    take i lines ≡ map (flow-figures (p .settings .window)) (map flow-of (take i rows)) → take (p .count) lines ≡ map (flow-figures (p .settings .window)) (table-of p .flows)
+lines-end p rows i lines e l m h =
+    let counted : p .count ≡ i = omega (arith, rows-counted p rows e) in
+    ap (λ n. take n lines) counted ∙ h ∙ ap (λ rs. map (flow-figures (p .settings .window)) (map flow-of rs)) (take-all i rows l) ∙ ap (map (flow-figures (p .settings .window))) e
 
 -- the search for the busiest channel, one channel on
 module _ (loads : ℕ → ℕ) where
