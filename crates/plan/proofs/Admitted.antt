@@ -16,9 +16,9 @@ use Rattle.routes.specs.Channels.{within, crosses}
 use Rattle.routes.specs.Routes.{route-checked}
 use Rattle.plan.specs.Tables.{Table, Flow, flow-of, flows-in, load, slots-on, all-fit}
 use Rattle.plan.specs.Plans.{table-of}
-use Rattle.plan.specs.declared.plan.Plan.{Plan}
+use Rattle.plan.specs.declared.table.Plan.{Plan}
 use Rattle.plan.specs.Reserving.{check, terms-checked, load-checked, and-then, of-route, admitted}
-use Rattle.plan.specs.declared.row.Row.{Row}
+use Rattle.plan.specs.declared.rows.Row.{Row}
 use Rattle.plan.proofs.Tables.{flows-counted}
 use Rattle.plan.specs.declared.refusal.PlanRefusal.{PlanRefusal}
 use Rattle.plan.specs.declared.refusal.PlanRefusal.the-variants.{TableFull, Slots, Packet, Overload}

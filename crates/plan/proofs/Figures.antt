@@ -16,10 +16,10 @@ use Rattle.routes.specs.Channels.{within}
 use Rattle.routes.specs.Routes.{channels-of}
 use Rattle.plan.specs.Tables.{Flow, flow-of, all-fit}
 use Rattle.plan.specs.Sheets.{flow-crossings, flow-figures, crossings, heaviest}
-use Rattle.plan.specs.declared.row.Row.{Row}
+use Rattle.plan.specs.declared.rows.Row.{Row}
 use Rattle.plan.specs.Plans.{table-of}
-use Rattle.plan.specs.declared.plan.Plan.{Plan}
-use Rattle.plan.specs.declared.sheet.FlowFigures.{FlowFigures}
+use Rattle.plan.specs.declared.table.Plan.{Plan}
+use Rattle.plan.specs.declared.sheets.FlowFigures.{FlowFigures}
 use Rattle.routes.proofs.Routes.{route-few}
 use Rattle.plan.proofs.Ranges.{within-parts, frame-range}
 use Rattle.plan.proofs.Tables.{flows-counted}

@@ -6,7 +6,7 @@ use lib.Dec.{leb}
 use Rattle.std.proofs.shelf.Tests.{and-parts, leb-true}
 use Rattle.routes.specs.Channels.{within}
 use Rattle.plan.specs.Settings.{settings-fit}
-use Rattle.plan.specs.declared.settings.Settings.{Settings}
+use Rattle.plan.specs.declared.setting.Settings.{Settings}
 
 pub within-parts : (low high n : ℕ) → within low high n ≡ true → (low ≤ n) × (n ≤ high)
 within-parts low high n e = let p = and-parts (leb low n) (leb n high) e in (leb-true low n (p .0), leb-true n high (p .1))

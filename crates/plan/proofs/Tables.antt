@@ -13,8 +13,8 @@ use Rattle.routes.specs.Channels.{crosses}
 use Rattle.routes.specs.Routes.{channels-of}
 use Rattle.plan.specs.Tables.{Flow, flow-of, slots-on, load}
 use Rattle.plan.specs.Plans.{table-of}
-use Rattle.plan.specs.declared.plan.Plan.{Plan}
-use Rattle.plan.specs.declared.row.Row.{Row}
+use Rattle.plan.specs.declared.table.Plan.{Plan}
+use Rattle.plan.specs.declared.rows.Row.{Row}
 use Rattle.plan.proofs.Ranges.{frame-range}
 
 module _ (g : Flow → ℕ) (rows : List Row) (i : ℕ) where

@@ -1,7 +1,7 @@
 -- The number under which callers know each refusal of a plan.
 use Prim.Native.Nat.{ℕ}
 use Rattle.routes.specs.Routes.{route-refusal-number}
-use Rattle.routes.specs.declared.route.checks.RouteRefusal.{RouteRefusal}
+use Rattle.routes.specs.declared.path.checks.RouteRefusal.{RouteRefusal}
 use Rattle.plan.specs.declared.refusal.PlanRefusal.{PlanRefusal}
 use Rattle.plan.specs.declared.refusal.PlanRefusal.the-variants.{Settings, TableFull, Slots, Packet, Route, Overload}
 

@@ -11,9 +11,9 @@ use Rattle.plan.specs.Refusals.{as-plan-refusal}
 use Rattle.routes.specs.Routes.{route-checked}
 use Rattle.plan.specs.Settings.{settings-fit, new-settings}
 use Rattle.plan.specs.Tables.{Flow, Table, flow-of, load}
-use Rattle.plan.specs.declared.row.Row.{Row}
-use Rattle.plan.specs.declared.settings.Settings as settings
-use Rattle.routes.specs.declared.route.checks.RouteRefusal.{RouteRefusal}
+use Rattle.plan.specs.declared.rows.Row.{Row}
+use Rattle.plan.specs.declared.setting.Settings as settings
+use Rattle.routes.specs.declared.path.checks.RouteRefusal.{RouteRefusal}
 use Rattle.plan.specs.declared.refusal.PlanRefusal.{PlanRefusal}
 use Rattle.plan.specs.declared.refusal.PlanRefusal.the-variants.{Settings, TableFull, Slots, Packet, Overload}
 

@@ -1,7 +1,7 @@
 -- The ranges of a plan's settings.
 use mathlib.Core.Bool.{Bool, _&&_}
 use Rattle.routes.specs.Channels.{within}
-use Rattle.plan.specs.declared.settings.Settings.{Settings}
+use Rattle.plan.specs.declared.setting.Settings.{Settings}
 
 -- a window of 2 to 8 frames, a frame of 1 to 4,096 slots, buffers of 1 to 8 flits
 abbrev pub settings-fit : Settings → Bool

@@ -9,9 +9,9 @@ use Rattle.std.specs.declared.option.Option.{Option}
 use Rattle.std.specs.declared.option.Option.the-variants.{Some, None}
 use Rattle.std.specs.shelf.Lists.{sumBy}
 use Rattle.plan.specs.Tables.{Flow, Table, load}
-use Rattle.plan.specs.declared.sheet.FlowFigures.{FlowFigures}
-use Rattle.plan.specs.declared.sheet.ChannelLoad.{ChannelLoad}
-use Rattle.plan.specs.declared.sheet.Sheet.{Sheet}
+use Rattle.plan.specs.declared.sheets.FlowFigures.{FlowFigures}
+use Rattle.plan.specs.declared.sheets.ChannelLoad.{ChannelLoad}
+use Rattle.plan.specs.declared.sheets.Sheet.{Sheet}
 
 pub record Figures : Type 0 where
   pub crossings : ℕ

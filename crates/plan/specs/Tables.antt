@@ -6,8 +6,8 @@ use lib.ListN.{take}
 use Rattle.std.specs.shelf.Lists.{sumBy}
 use Rattle.routes.specs.Channels.{within, crosses}
 use Rattle.routes.specs.Routes.{channels-of}
-use Rattle.plan.specs.declared.row.Row.{Row}
-use Rattle.plan.specs.declared.settings.Settings.{Settings}
+use Rattle.plan.specs.declared.rows.Row.{Row}
+use Rattle.plan.specs.declared.setting.Settings.{Settings}
 
 -- a flow: its slots in every frame, its largest packet, the channels it crosses
 pub record Flow : Type 0 where

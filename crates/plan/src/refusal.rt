@@ -1,10 +1,10 @@
 ghost use mathlib.Core.Path.{_≡_};
 ghost use Rattle.plan.specs.Refusals.{plan-refusal-number, as-plan-refusal};
-use routes::route::checks::RouteRefusal;
-use routes::route::checks::RouteRefusalDebug;
-use routes::route::checks::RouteRefusalDisplay;
-use routes::route::checks::RouteRefusalPartialEq;
-use routes::route::checks::RouteRefusalEq;
+use routes::RouteRefusal;
+use routes::path::checks::RouteRefusalDebug;
+use routes::path::checks::RouteRefusalDisplay;
+use routes::path::checks::RouteRefusalPartialEq;
+use routes::path::checks::RouteRefusalEq;
 use std::fmt;
 
 /// Why a plan refused a call.

@@ -12,9 +12,9 @@ use Rattle.std.proofs.shelf.Lists.{take-at, length-take}
 use Rattle.std.proofs.shelf.Tests.{and-parts, leb-true}
 use Rattle.routes.specs.Channels.{few-hops, known, rises, well-formed}
 use Rattle.routes.specs.Routes.{route-checked, channels-of}
-use Rattle.routes.specs.declared.route.Route.{Route}
-use Rattle.routes.specs.declared.route.checks.RouteRefusal.{RouteRefusal}
-use Rattle.routes.specs.declared.route.checks.RouteRefusal.the-variants.{Length, UnknownChannel, NotRising}
+use Rattle.routes.specs.declared.path.Route.{Route}
+use Rattle.routes.specs.declared.path.checks.RouteRefusal.{RouteRefusal}
+use Rattle.routes.specs.declared.path.checks.RouteRefusal.the-variants.{Length, UnknownChannel, NotRising}
 
 all-pass : (a b d : Bool) → _≡_ {A = Result (Unit {0}) RouteRefusal} (Ok tt) (cond a (cond b (cond d (Ok tt) (Err NotRising)) (Err UnknownChannel)) (Err Length)) → (a && (b && d)) ≡ true
 all-pass true true true e = refl

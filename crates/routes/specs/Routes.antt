@@ -8,9 +8,9 @@ use Rattle.std.specs.declared.option.Option.the-variants.{Some, None}
 use Rattle.std.specs.declared.result.Result.{Result}
 use Rattle.std.specs.declared.result.Result.the-variants.{Ok, Err}
 use Rattle.routes.specs.Channels.{few-hops, known, rises}
-use Rattle.routes.specs.declared.route.Route.{Route}
-use Rattle.routes.specs.declared.route.checks.RouteRefusal.{RouteRefusal}
-use Rattle.routes.specs.declared.route.checks.RouteRefusal.the-variants.{Length, UnknownChannel, NotRising}
+use Rattle.routes.specs.declared.path.Route.{Route}
+use Rattle.routes.specs.declared.path.checks.RouteRefusal.{RouteRefusal}
+use Rattle.routes.specs.declared.path.checks.RouteRefusal.the-variants.{Length, UnknownChannel, NotRising}
 
 -- the number under which callers know a refusal
 abbrev pub route-refusal-number : RouteRefusal → ℕ

@@ -1,6 +1,0 @@
-use borrow.Author.Needs.{needs}
-use Rattle.plan.proofs.Tables.{flows-counted}
-use Rattle.plan.proofs.plan.Plan.flows.Needs as need
-
-pub returns : need.returns
-returns c = search (needs, flows-counted)
