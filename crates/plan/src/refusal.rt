@@ -1,5 +1,6 @@
 ghost use mathlib.Core.Path.{_≡_};
-ghost use Rattle.plan.specs.Refusals.{plan-refusal-number, as-plan-refusal};
+ghost use Rattle.plan.specs.Refusals.{plan-refusal-number, plan-refusal-text, as-plan-refusal};
+ghost use Rattle.std.specs.declared.option.Option.the-variants.{Some};
 use routes::RouteRefusal;
 use routes::path::checks::RouteRefusalDebug;
 use routes::path::checks::RouteRefusalDisplay;
@@ -49,14 +50,16 @@ pub impl From<RouteRefusal> for PlanRefusal as PlanFromRoute {
 }
 
 pub impl fmt::Display for PlanRefusal as PlanRefusalDisplay {
+    ghost shown = { λ r. Some (plan-refusal-text r) };
+
     fn fmt<W: fmt::Write>(&self, f: &mut fmt::Formatter<W>) -> fmt::Result {
         match self {
-            PlanRefusal::Settings => write!(f, "a setting is out of range"),
-            PlanRefusal::TableFull => write!(f, "all 64 rows are taken"),
-            PlanRefusal::Slots => write!(f, "the slots are out of range"),
-            PlanRefusal::Packet => write!(f, "the largest packet is out of range"),
+            PlanRefusal::Settings => f.write_str("a setting is out of range"),
+            PlanRefusal::TableFull => f.write_str("all 64 rows are taken"),
+            PlanRefusal::Slots => f.write_str("a flow has 1 slot to a frame's slots"),
+            PlanRefusal::Packet => f.write_str("a largest packet has 1 to 64 flits"),
             PlanRefusal::Route(refusal) => write!(f, "{refusal}"),
-            PlanRefusal::Overload(channel) => write!(f, "channel {channel} would carry more than a frame's slots"),
+            PlanRefusal::Overload(channel) => write!(f, "channel {channel} would pass a frame's slots"),
         }
     }
 }

@@ -2,9 +2,8 @@
 use mathlib.Core.Bool.{Bool, true, false, cond}
 use mathlib.Core.List.{List, [], _∷_}
 use Prim.Native.Nat.{ℕ}
+use lib.Chars.{codes}
 use lib.ListN.{take}
-use Rattle.std.specs.declared.option.Option.{Option}
-use Rattle.std.specs.declared.option.Option.the-variants.{Some, None}
 use Rattle.std.specs.declared.result.Result.{Result}
 use Rattle.std.specs.declared.result.Result.the-variants.{Ok, Err}
 use Rattle.routes.specs.Channels.{few-hops, known, rises}
@@ -17,6 +16,12 @@ abbrev pub route-refusal-number : RouteRefusal → ℕ
 route-refusal-number Length = 5
 route-refusal-number UnknownChannel = 6
 route-refusal-number NotRising = 7
+
+-- and its text
+abbrev pub route-refusal-text : RouteRefusal → List ℕ
+route-refusal-text Length = codes "a route has 1 to 16 channels"
+route-refusal-text UnknownChannel = codes "channels go from 0 to 319"
+route-refusal-text NotRising = codes "the numbers of a route rise"
 
 -- the checks of a route, in their order
 abbrev pub route-checked : List ℕ → Result (Unit {0}) RouteRefusal

@@ -3,7 +3,8 @@ ghost use Rattle.routes.specs.Channels.{few-hops, known, rises, crosses};
 ghost use mathlib.Core.List.{[], _∷_};
 ghost use Prim.Native.Nat.{_≤_};
 ghost use lib.ListN.{length};
-ghost use Rattle.routes.specs.Routes.{channels-of, routed, route-checked, route-answer, route-refusal-number};
+ghost use Rattle.routes.specs.Routes.{channels-of, routed, route-checked, route-answer, route-refusal-number, route-refusal-text};
+ghost use Rattle.std.specs.declared.option.Option.the-variants.{Some};
 use super::Route;
 use std::fmt;
 
@@ -38,11 +39,13 @@ impl RouteRefusal {
 }
 
 pub impl fmt::Display for RouteRefusal as RouteRefusalDisplay {
+    ghost shown = { λ r. Some (route-refusal-text r) };
+
     fn fmt<W: fmt::Write>(&self, f: &mut fmt::Formatter<W>) -> fmt::Result {
         match self {
-            RouteRefusal::Length => write!(f, "the route has no channel or more than 16"),
-            RouteRefusal::UnknownChannel => write!(f, "the route has a channel above 319"),
-            RouteRefusal::NotRising => write!(f, "the route's numbers do not rise"),
+            RouteRefusal::Length => f.write_str("a route has 1 to 16 channels"),
+            RouteRefusal::UnknownChannel => f.write_str("channels go from 0 to 319"),
+            RouteRefusal::NotRising => f.write_str("the numbers of a route rise"),
         }
     }
 }
