@@ -4,8 +4,8 @@ ghost use Rattle.std.specs.declared.option.Option.the-variants.{Some};
 use routes::RouteRefusal;
 use routes::path::checks::RouteRefusalDebug;
 use routes::path::checks::RouteRefusalDisplay;
-use routes::path::checks::RouteRefusalPartialEq;
 use routes::path::checks::RouteRefusalEq;
+use routes::path::checks::RouteRefusalPartialEq;
 use std::fmt;
 
 /// Why a plan refused a call.
@@ -59,7 +59,10 @@ pub impl fmt::Display for PlanRefusal as PlanRefusalDisplay {
             PlanRefusal::Slots => f.write_str("a flow has 1 slot to a frame's slots"),
             PlanRefusal::Packet => f.write_str("a largest packet has 1 to 64 flits"),
             PlanRefusal::Route(refusal) => write!(f, "{refusal}"),
-            PlanRefusal::Overload(channel) => write!(f, "channel {channel} would pass a frame's slots"),
+            PlanRefusal::Overload(channel) => write!(
+                f,
+                "channel {channel} would pass a frame's slots"
+            ),
         }
     }
 }

@@ -17,13 +17,18 @@ impl Settings {
     pub fn smallest() -> Settings
         ensures { λ r. ⌜ r ≡ new-settings ⌝ }
     {
-        Settings { window: 2, frame: 1, depth: 1 }
+        Settings {
+            window: 2,
+            frame: 1,
+            depth: 1,
+        }
     }
 
     /// Whether each setting is in its range.
     pub fn fit(&self) -> bool
         ensures { λ r. ⌜ r ≡ settings-fit (now (self .entry)) ⌝ }
     {
-        (2 <= self.window && self.window <= 8) && ((1 <= self.frame && self.frame <= 4096) && (1 <= self.depth && self.depth <= 8))
+        (2 <= self.window && self.window <= 8)
+            && ((1 <= self.frame && self.frame <= 4096) && (1 <= self.depth && self.depth <= 8))
     }
 }

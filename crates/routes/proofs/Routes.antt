@@ -36,3 +36,7 @@ copied cs xs rest e = take-at xs rest (length cs) (ap length e) ∙ e
 -- what every route is
 pub route-few : (r : Route) → length (channels-of r) ≤ 16
 route-few r = omega (arith, length-take (r .hops) (r .channels), r .few)
+
+-- a list that passes each of the checks passes them all
+pub passes : (cs : List ℕ) → few-hops cs ≡ true → known cs ≡ true → rises cs ≡ true → route-checked cs ≡ Ok tt
+passes cs few all up = rw (few, all, up) refl

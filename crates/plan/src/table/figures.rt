@@ -7,11 +7,11 @@ ghost use Rattle.plan.specs.Sheets.{flow-crossings, crossings, flow-figures, b
 ghost use Rattle.plan.specs.Tables.{flow-of};
 use super::Plan;
 use super::ROWS;
-use routes::CHANNELS;
 use crate::rows::Row;
 use crate::sheets::ChannelLoad;
 use crate::sheets::FlowFigures;
 use crate::sheets::Sheet;
+use routes::CHANNELS;
 
 impl Row {
     /// The channel crossings that the flow's flits of one frame can need.
@@ -27,7 +27,10 @@ impl Row {
         requires { ⌜ now self .slots ≤ 4096 ⌝ ∗ ⌜ window ≤ 8 ⌝ }
         ensures { λ r. ⌜ r ≡ flow-figures window (flow-of (now (self .entry))) ⌝ }
     {
-        FlowFigures { hops: self.route.hops(), inflight: window * self.slots }
+        FlowFigures {
+            hops: self.route.hops(),
+            inflight: window * self.slots,
+        }
     }
 }
 
@@ -51,7 +54,10 @@ impl Plan {
         if self.flows() == 0 {
             return None;
         }
-        let mut most = ChannelLoad { channel: 0, load: self.load(0) };
+        let mut most = ChannelLoad {
+            channel: 0,
+            load: self.load(0),
+        };
         for channel in 1..CHANNELS {
             let load = self.load(channel);
             if most.load < load {
@@ -67,7 +73,10 @@ impl Plan {
     {
         let window = self.settings.window;
         let rows = self.rows();
-        let mut lines = [FlowFigures { hops: 0, inflight: 0 }; ROWS];
+        let mut lines = [FlowFigures {
+            hops: 0,
+            inflight: 0,
+        }; ROWS];
         for (flow, row) in rows.iter().enumerate() {
             lines[flow] = row.figures(window);
         }
@@ -80,6 +89,11 @@ impl Plan {
         ensures most { λ s. ⌜ Most-loaded (table-of (now (self .entry)) .flows) (s .busiest) ⌝ }
     {
         let flows = self.lines();
-        Sheet { crossings: self.crossings(), busiest: self.busiest(), count: self.count, flows }
+        Sheet {
+            crossings: self.crossings(),
+            busiest: self.busiest(),
+            count: self.count,
+            flows,
+        }
     }
 }

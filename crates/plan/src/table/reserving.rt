@@ -6,17 +6,25 @@ use super::Plan;
 use super::ROWS;
 use crate::refusal::PlanFromRoute;
 use crate::refusal::PlanRefusal;
-use routes::Route;
 use crate::rows::Row;
 use crate::setting::Settings;
+use routes::Route;
 
 impl Plan {
     /// A plan with the smallest settings and no flows.
     pub fn new() -> Plan
         ensures { λ r. ⌜ table-of r ≡ new-table ⌝ }
     {
-        let vacant = Row { slots: 0, largest: 0, route: Route::shortest() };
-        Plan { settings: Settings::smallest(), count: 0, rows: [vacant; ROWS] }
+        let vacant = Row {
+            slots: 0,
+            largest: 0,
+            route: Route::shortest(),
+        };
+        Plan {
+            settings: Settings::smallest(),
+            count: 0,
+            rows: [vacant; ROWS],
+        }
     }
 
     /// Gives the plan other settings and empties it.
@@ -68,7 +76,11 @@ impl Plan {
         self.check_terms(slots, largest)?;
         let path = Route::new(route)?;
         self.check_load(slots, route)?;
-        Ok(Row { slots, largest, route: path })
+        Ok(Row {
+            slots,
+            largest,
+            route: path,
+        })
     }
 
     /// Reserves slots of every frame for a flow on each channel of its route, and

@@ -99,14 +99,20 @@ impl Route {
         let hops = channels.len();
         let mut places = [0; MOST_HOPS];
         places[0..hops].copy_from_slice(channels);
-        Ok(Route { hops, channels: places })
+        Ok(Route {
+            hops,
+            channels: places,
+        })
     }
 
     /// The route over channel 0 alone.
     pub fn shortest() -> Route
         ensures { λ r. ⌜ channels-of r ≡ 0 ∷ [] ⌝ }
     {
-        Route { hops: 1, channels: [0; MOST_HOPS] }
+        Route {
+            hops: 1,
+            channels: [0; MOST_HOPS],
+        }
     }
 
     /// The channels in the order of crossing.

@@ -1,0 +1,4 @@
+pub mod Numbers
+pub mod Travelling
+pub mod Walking
+pub mod Writing

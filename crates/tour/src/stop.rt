@@ -1,0 +1,38 @@
+use mesh::MeshRefusal;
+use plan::PlanRefusal;
+use std::alloc::AllocError;
+use std::alloc::Refused;
+use std::io;
+
+/// Why the tour ends early.
+#[derive(Drop)]
+pub enum Stop {
+    Mesh(MeshRefusal),
+    Plan(PlanRefusal),
+    Memory,
+    Output(io::Error),
+}
+
+pub impl From<MeshRefusal> for Stop as StopFromMesh {
+    fn from(refusal: MeshRefusal) -> Stop {
+        Stop::Mesh(refusal)
+    }
+}
+
+pub impl From<PlanRefusal> for Stop as StopFromPlan {
+    fn from(refusal: PlanRefusal) -> Stop {
+        Stop::Plan(refusal)
+    }
+}
+
+pub impl From<io::Error> for Stop as StopFromOutput {
+    fn from(error: io::Error) -> Stop {
+        Stop::Output(error)
+    }
+}
+
+pub impl<T: Drop> From<Refused<T>> for Stop as StopFromRefused {
+    fn from(_refused: Refused<T>) -> Stop {
+        Stop::Memory
+    }
+}
