@@ -44,8 +44,8 @@ impl PlanRefusal {
 pub impl From<RouteRefusal> for PlanRefusal as PlanFromRoute {
     ghost converts = { λ x y. y ≡ as-plan-refusal x };
 
-    fn from(refusal: RouteRefusal) -> PlanRefusal {
-        PlanRefusal::Route(refusal)
+    fn from(cause: RouteRefusal) -> PlanRefusal {
+        PlanRefusal::Route(cause)
     }
 }
 
