@@ -1,6 +1,7 @@
+use accounts::AccountRefusal;
+use clocks::ClockRefusal;
 use mesh::MeshRefusal;
 use plan::PlanRefusal;
-use std::alloc::AllocError;
 use std::alloc::Refused;
 use std::io;
 
@@ -9,6 +10,8 @@ use std::io;
 pub enum Stop {
     Mesh(MeshRefusal),
     Plan(PlanRefusal),
+    Clock(ClockRefusal),
+    Account(AccountRefusal),
     Memory,
     Output(io::Error),
 }
@@ -22,6 +25,18 @@ pub impl From<MeshRefusal> for Stop as StopFromMesh {
 pub impl From<PlanRefusal> for Stop as StopFromPlan {
     fn from(refusal: PlanRefusal) -> Stop {
         Stop::Plan(refusal)
+    }
+}
+
+pub impl From<ClockRefusal> for Stop as StopFromClock {
+    fn from(refusal: ClockRefusal) -> Stop {
+        Stop::Clock(refusal)
+    }
+}
+
+pub impl From<AccountRefusal> for Stop as StopFromAccount {
+    fn from(refusal: AccountRefusal) -> Stop {
+        Stop::Account(refusal)
     }
 }
 

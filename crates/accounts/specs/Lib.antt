@@ -1,0 +1,10 @@
+pub mod Refusals
+pub mod Ledgers
+pub mod Offers
+pub mod Shifts
+pub mod Credits
+pub mod Accounts
+pub mod Calls
+pub mod Counts
+pub mod Laws
+pub mod Examples

@@ -1,0 +1,5 @@
+pub mod Answering
+pub mod Rounds
+pub mod Orders
+pub mod Rules
+pub mod Edges

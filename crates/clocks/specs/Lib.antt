@@ -1,0 +1,9 @@
+pub mod Refusals
+pub mod Making
+pub mod Turns
+pub mod Barriers
+pub mod Timers
+pub mod Samples
+pub mod Runs
+pub mod Rules
+pub mod Edges
