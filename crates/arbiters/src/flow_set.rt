@@ -1,4 +1,3 @@
-ghost use mathlib.Core.Bool.{false, true};
 ghost use mathlib.Core.Path.{_≡_};
 ghost use Rattle.arbiters.specs.FlowSets.{first-between, has, no-flows, with-flow};
 
