@@ -1,5 +1,4 @@
 -- Shares: any n successive frames hold at most n × R + L - 1 accepted flits.
--- Assumes nothing.
 use mathlib.Core.Path.{_≡_, refl, sym, ap, subst}
 use mathlib.Core.Bool.{Bool, true, false, cond}
 use mathlib.Core.List.{List, [], _∷_}

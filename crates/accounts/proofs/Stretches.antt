@@ -1,5 +1,4 @@
 -- Stretches: from one refusal for a spent window to another, s shifts come with s × R accepted flits, give or take L - 1.
--- Assumes nothing.
 use mathlib.Core.Path.{_≡_, refl, sym, _∙_, ap, subst}
 use mathlib.Core.Bool.{Bool, true, false, cond}
 use mathlib.Core.List.{List, [], _∷_, _++_}

@@ -1,6 +1,5 @@
 //! The account of a flow: which frame each of its packets gets, and what that promises over frames.
 pub mod account;
-pub mod examples;
 pub mod refusal;
 
 pub use account::Account;

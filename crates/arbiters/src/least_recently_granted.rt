@@ -48,9 +48,7 @@ pub impl Arbiter for LeastRecentlyGranted as LeastRecentlyGrantedArbiter {
 
     fn grant(&mut self, channel: u32, flow: u32) {
         if channel < CHANNELS && flow < FLOWS {
-            let mut order = self.orders[channel as usize];
-            order.grant(flow as u8);
-            self.orders[channel as usize] = order;
+            self.orders[channel as usize].grant(flow as u8);
         }
     }
 }

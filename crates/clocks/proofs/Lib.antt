@@ -2,3 +2,4 @@ pub mod Same
 pub mod Products
 pub mod Rules
 pub mod Edges
+pub mod Liveness

@@ -7,3 +7,4 @@ pub mod Samples
 pub mod Runs
 pub mod Rules
 pub mod Edges
+pub mod Liveness

@@ -1,8 +1,8 @@
 -- What a reservation that passed its checks brings, and that the table with its flow is still sound.
 use mathlib.Core.Path.{_≡_, refl, sym, ap, subst, _∙_}
-use mathlib.Core.Bool.{Bool, true, false, cond, _&&_, _||_}
+use mathlib.Core.Bool.{Bool, true, false, cond, _&&_}
 use mathlib.Core.List.{List, [], _∷_, _++_, map}
-use mathlib.Core.Logic.{_⊎_, inl, inr, ⊎-elim}
+use mathlib.Core.Logic.{_⊎_, inl, inr}
 use Prim.Native.Nat.{ℕ, _+_, _<_, _≤_}
 use native.Mathlib.Omega.{arith}
 use lib.Dec.{ltb, leb, eqb}
@@ -11,7 +11,7 @@ use Rattle.std.specs.declared.result.Result.{Result}
 use Rattle.std.specs.declared.result.Result.the-variants.{Ok, Err}
 use Rattle.std.proofs.shelf.Lists.{take-more-set, map-push}
 use Rattle.std.proofs.shelf.Sums.{sumBy-push}
-use Rattle.std.proofs.shelf.Tests.{ltb-true, leb-true, eqb-true, or-cases, and-parts, and-from, cases-bool}
+use Rattle.std.proofs.shelf.Tests.{ltb-true, leb-true, eqb-true, or-cases, and-parts, and-from}
 use Rattle.routes.specs.Channels.{within, crosses}
 use Rattle.routes.specs.Routes.{route-checked}
 use Rattle.plan.specs.Tables.{Table, Flow, flow-of, flows-in, load, slots-on, all-fit}

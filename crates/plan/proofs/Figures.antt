@@ -14,7 +14,7 @@ use Rattle.std.proofs.shelf.Sums.{sumBy-cons}
 use Rattle.std.proofs.shelf.Tests.{and-parts, lt-ltb, le-ltb}
 use Rattle.routes.specs.Channels.{within}
 use Rattle.routes.specs.Routes.{channels-of}
-use Rattle.plan.specs.Tables.{Flow, flow-of, all-fit}
+use Rattle.plan.specs.Tables.{flow-of, all-fit}
 use Rattle.plan.specs.Sheets.{flow-crossings, flow-figures, crossings, heaviest}
 use Rattle.plan.specs.declared.rows.Row.{Row}
 use Rattle.plan.specs.Plans.{table-of}

@@ -1,6 +1,6 @@
 -- The ranges, as orders.
 use mathlib.Core.Path.{_≡_}
-use mathlib.Core.Bool.{Bool, true, _&&_}
+use mathlib.Core.Bool.{true, _&&_}
 use Prim.Native.Nat.{ℕ, _≤_}
 use lib.Dec.{leb}
 use Rattle.std.proofs.shelf.Tests.{and-parts, leb-true}

@@ -1,20 +1,14 @@
 -- The checks of a reservation, step by step, as the code comes to them.
-use mathlib.Core.Path.{_≡_, refl, sym, ap, _∙_}
-use mathlib.Core.Bool.{Bool, true, false, cond, _&&_}
-use mathlib.Core.List.{List, [], _∷_, map}
-use mathlib.Core.Logic.{_⊎_, inl, inr}
+use mathlib.Core.Path.{_≡_, ap, _∙_}
+use mathlib.Core.Bool.{Bool, true, false}
+use mathlib.Core.List.{List}
 use Prim.Native.Nat.{ℕ, _+_, _<_, _≤_}
-use native.Mathlib.Omega.{arith}
-use lib.Dec.{ltb, leb}
-use lib.ListN.{length, getD, drop, take}
-use Rattle.std.specs.declared.option.Option.{Option}
-use Rattle.std.specs.declared.option.Option.the-variants.{Some, None}
-use Rattle.std.specs.declared.result.Result.{Result}
+use lib.Dec.{leb}
+use lib.ListN.{length, getD, drop}
 use Rattle.std.specs.declared.result.Result.the-variants.{Ok, Err}
 use Rattle.std.proofs.shelf.Lists.{at-drop-more, at-drop-all}
-use Rattle.std.proofs.shelf.Tests.{le-leb, lt-leb, and-left, and-right, and-from}
-use Rattle.routes.specs.Channels.{within}
-use Rattle.plan.specs.Tables.{Table, Flow, load}
+use Rattle.std.proofs.shelf.Tests.{le-leb, lt-leb}
+use Rattle.plan.specs.Tables.{Table, load}
 use Rattle.plan.specs.Reserving.{check, load-checked}
 use Rattle.plan.specs.declared.refusal.PlanRefusal.the-variants.{Overload}
 
@@ -31,10 +25,3 @@ module _ (t : Table) (slots : ℕ) (route : List ℕ) (i : ℕ) where
 
   pub load-end : length route ≤ i → load-checked t slots (drop i route) ≡ Ok tt
   load-end l = at-drop-all (load-checked t slots) route i l
-
-pub inside : (low high n : ℕ) → low ≤ n → n ≤ high → within low high n ≡ true
-inside low high n p q = and-from (leb low n) (leb n high) (le-leb low n p) (le-leb n high q)
-
-pub outside : (low high n : ℕ) → (n < low) ⊎ (high < n) → within low high n ≡ false
-outside low high n (inl h) = and-left (leb low n) (leb n high) (lt-leb low n h)
-outside low high n (inr h) = and-right (leb low n) (leb n high) (lt-leb n high h)

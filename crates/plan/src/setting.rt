@@ -25,7 +25,7 @@ impl Settings {
     }
 
     /// Whether each setting is in its range.
-    pub fn fit(&self) -> bool
+    pub fn fits(&self) -> bool
         ensures { λ r. ⌜ r ≡ settings-fit (now (self .entry)) ⌝ }
     {
         (2 <= self.window && self.window <= 8)

@@ -2,7 +2,6 @@ use crate::stop::Stop;
 use crate::stop::StopFromAccount;
 use crate::stop::StopFromOutput;
 use accounts::Account;
-use accounts::AccountRefusal;
 use accounts::refusal::AccountRefusalDisplay;
 
 /// Offers a packet, and prints the frame that it gets.
@@ -38,7 +37,7 @@ pub fn show_account(rt: &LibcRuntime, slots: u32, largest: u32, window: u32) -> 
     let head = account.head();
     println!(rt, "  the window shifts to head frame {head}")?;
     show_offer(rt, &mut account, 1)?;
-    for frames in [1, window] {
+    for frames in [2, window] {
         let share = account.share(frames);
         println!(
             rt,

@@ -35,7 +35,7 @@ fn a_new_plan_is_empty() -> Result<(), Fail> {
             depth: 1,
         },
     )?;
-    check_eq(plan.flows(), 0)?;
+    check_eq(plan.flow_count(), 0)?;
     check_eq(plan.sheet().crossings, 0)?;
     check_eq(plan.sheet().busiest, None)
 }
@@ -96,7 +96,7 @@ fn setting_empties_the_plan() -> Result<(), Fail> {
         frame: 2,
         depth: 1,
     })?;
-    check_eq(plan.flows(), 0)?;
+    check_eq(plan.flow_count(), 0)?;
     check_eq(plan.load(2), 0)
 }
 

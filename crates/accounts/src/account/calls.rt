@@ -5,6 +5,7 @@ ghost use lib.IntN.{pos};
 ghost use lib.Signed.{_≤ℤ_};
 ghost use Rattle.accounts.specs.Accounts.{ledger, opened, opened-as, Of-opened};
 ghost use Rattle.accounts.specs.Credits.{Spent-exactly, Frame-given};
+ghost use Rattle.accounts.specs.Examples.{Two-frames-filled, Overdraft-paid-back, Nothing-carried-over};
 ghost use Rattle.accounts.specs.Laws.{For-ever, Shares, Stretches};
 ghost use Rattle.accounts.specs.Ledgers.{Limits};
 ghost use Rattle.accounts.specs.Offers.{ready, offer-answer, offer-leaves};
@@ -14,6 +15,13 @@ use crate::refusal::AccountRefusal;
 
 /// The shifts of one run.
 pub const RUN_SHIFTS: u64 = 16_777_216;
+
+/// Does nothing: proves the worked examples that `new` names.
+fn worked_examples()
+    ensures filled { λ _. ⌜ Two-frames-filled ⌝ }
+    ensures overdraft { λ _. ⌜ Overdraft-paid-back ⌝ }
+    ensures carried { λ _. ⌜ Nothing-carried-over ⌝ }
+{}
 
 impl Account {
     /// Opens the account of a flow: head frame 0, injection frame 1 and the slots of that frame. The window is 2 to 8
@@ -26,7 +34,11 @@ impl Account {
         ensures frames { λ r. ⌜ Of-opened (For-ever Frame-given) r ⌝ }
         ensures shares { λ r. ⌜ Of-opened Shares r ⌝ }
         ensures stretches { λ r. ⌜ Of-opened Stretches r ⌝ }
+        ensures filled { λ _. ⌜ Two-frames-filled ⌝ }
+        ensures overdraft { λ _. ⌜ Overdraft-paid-back ⌝ }
+        ensures carried { λ _. ⌜ Nothing-carried-over ⌝ }
     {
+        worked_examples();
         if window < 2 || window > 8 {
             return Err(AccountRefusal::WindowRange);
         }

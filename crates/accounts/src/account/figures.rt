@@ -6,7 +6,7 @@ ghost use Rattle.accounts.specs.Credits.{credit, Spent-exactly, Frame-given};
 ghost use Rattle.accounts.specs.Laws.{share-of, Hold-at-most, stretch-least, stretch-most, Bring};
 use super::Account;
 
-/// The least and the most flits.
+/// Bounds on a number of flits, from below and from above.
 #[derive(Clone, Copy, Debug, PartialEq, Eq)]
 pub struct Bounds {
     pub least: u64,
@@ -24,7 +24,8 @@ impl Account {
         self.balance + self.slots_in(self.frames_ahead()) as i64
     }
 
-    /// The most flits that any `frames` successive frames can hold of this flow, whatever is offered.
+    /// A bound that no `frames` successive frames pass: so many flits of this flow they hold at most, whatever is
+    /// offered.
     pub fn share(&self, frames: u32) -> u64
         ensures figure { λ r. ⌜ r ≡ share-of (ledger (now (self .entry))) frames ⌝ }
         ensures holds { λ r. ⌜ Hold-at-most (opening (ledger (now (self .entry)))) frames r ⌝ }
@@ -32,7 +33,7 @@ impl Account {
         self.slots_in(frames) + self.slack()
     }
 
-    /// The least and the most flits of this flow that `shifts` shifts can bring, in a stretch from one refusal for a
+    /// Bounds, from below and from above, on the flits of this flow that come with `shifts` shifts, in a stretch from one refusal for a
     /// spent window to another, with one more between any two neighbouring shifts.
     pub fn stretch(&self, shifts: u32) -> Bounds
         ensures least { λ r. ⌜ r .least ≡ stretch-least (ledger (now (self .entry))) shifts ⌝ }

@@ -32,7 +32,7 @@ impl Account {
         self.head
     }
 
-    /// The injection frame, that of the packet accepted last, or a later one after a shift.
+    /// The injection frame: at first 1, then that of the packet accepted last, or a later one after a shift.
     pub fn frame(&self) -> u64
         ensures { λ r. ⌜ r ≡ ledger (now (self .entry)) .frame ⌝ }
     {

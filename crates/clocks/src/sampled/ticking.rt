@@ -1,4 +1,5 @@
 ghost use Rattle.clocks.specs.Edges.{Two-over-two};
+ghost use Rattle.clocks.specs.Liveness.{Shifts-in-time};
 ghost use Rattle.clocks.specs.Making.{Made};
 ghost use Rattle.clocks.specs.Rules.{Sampled-rule};
 ghost use Rattle.clocks.specs.Samples.{sampled-lag, sampled-left, sampled-shifts, sampled-told, sampled-refusal, Fresh-sampled};
@@ -7,10 +8,11 @@ use crate::clock::LONGEST_LAG;
 use crate::clock::WindowClock;
 use crate::refusal::ClockRefusal;
 
-/// Does nothing: proves what `new` says of every sampled clock.
+/// Does nothing: proves what `new` says of every sampled clock, and of every clock below one.
 fn laws<C: WindowClock>()
     ensures rule { λ _. ⌜ Sampled-rule (C·WindowClock .shifts) (C·WindowClock .told) ⌝ }
     ensures edge { λ _. ⌜ Two-over-two ⌝ }
+    ensures in_time { λ _. ⌜ Shifts-in-time C·WindowClock ⌝ }
 {}
 
 impl<C: WindowClock + Drop> Sampled<C> {
@@ -19,6 +21,7 @@ impl<C: WindowClock + Drop> Sampled<C> {
         ensures made { λ r. ⌜ Made (sampled-refusal period (C·WindowClock .lag below)) (Fresh-sampled period below) r ⌝ }
         ensures rule { λ _. ⌜ Sampled-rule (C·WindowClock .shifts) (C·WindowClock .told) ⌝ }
         ensures edge { λ _. ⌜ Two-over-two ⌝ }
+        ensures in_time { λ _. ⌜ Shifts-in-time C·WindowClock ⌝ }
     {
         laws::<C>();
         if period == 0 || period > 64 {

@@ -1,7 +1,7 @@
 ghost use mathlib.Core.Path.{_≡_};
 ghost use mathlib.Core.List.{map};
 ghost use Prim.Native.Nat.{_≤_};
-ghost use lib.ListN.{length, take};
+ghost use lib.ListN.{take};
 ghost use Rattle.plan.specs.Plans.{table-of};
 ghost use Rattle.plan.specs.Sheets.{flow-crossings, crossings, flow-figures, busiest, sheet-figures, figures-in, Most-loaded};
 ghost use Rattle.plan.specs.Tables.{flow-of};
@@ -51,7 +51,7 @@ impl Plan {
     fn busiest(&self) -> Option<ChannelLoad>
         ensures { λ r. ⌜ r ≡ busiest (table-of (now (self .entry)) .flows) ⌝ }
     {
-        if self.flows() == 0 {
+        if self.flow_count() == 0 {
             return None;
         }
         let mut most = ChannelLoad {

@@ -16,7 +16,7 @@ impl Plan {
     }
 
     /// How many flows are reserved.
-    pub fn flows(&self) -> u32
+    pub fn flow_count(&self) -> u32
         ensures { λ r. ⌜ r ≡ length (table-of (now (self .entry)) .flows) ⌝ }
     {
         self.count as u32

@@ -32,7 +32,7 @@ impl Plan {
         ensures answer { λ r. ⌜ r ≡ set-answer settings ⌝ }
         ensures state { λ _. ⌜ table-of (now (self .exit)) ≡ set-table (table-of (now (self .entry))) settings ⌝ }
     {
-        if !settings.fit() {
+        if !settings.fits() {
             return Err(PlanRefusal::Settings);
         }
         self.settings = settings;
@@ -44,7 +44,7 @@ impl Plan {
     fn check_terms(&self, slots: u32, largest: u32) -> Result<(), PlanRefusal>
         ensures { λ r. ⌜ r ≡ terms-checked (table-of (now (self .entry))) slots largest ⌝ }
     {
-        if self.flows() >= 64 {
+        if self.flow_count() >= 64 {
             return Err(PlanRefusal::TableFull);
         }
         if slots < 1 || slots > self.settings.frame {

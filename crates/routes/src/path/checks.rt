@@ -1,5 +1,5 @@
 ghost use mathlib.Core.Path.{_≡_};
-ghost use Rattle.routes.specs.Channels.{few-hops, known, rises, crosses};
+ghost use Rattle.routes.specs.Channels.{known, rises, crosses};
 ghost use mathlib.Core.List.{[], _∷_};
 ghost use Prim.Native.Nat.{_≤_};
 ghost use lib.ListN.{length};

@@ -12,4 +12,15 @@ pub returns : need.returns
 returns c =
     let terms : Terms (fresh (c .args .slots) (c .args .largest) (c .args .window)) = search needs in
     let p = promise-at (c .args .slots) (c .args .largest) (c .args .window) (toZ w64 (c .args .slots)) terms (omega (arith, ints)) in
-    record { answer = search needs; limits = p .limits; spent = p .spent; frames = p .frames; shares = p .shares; stretches = p .stretches }
+    let e = c .worked-examples .ensures in
+    record {
+      answer = search needs;
+      limits = p .limits;
+      spent = p .spent;
+      frames = p .frames;
+      shares = p .shares;
+      stretches = p .stretches;
+      filled = e .filled;
+      overdraft = e .overdraft;
+      carried = e .carried;
+    }

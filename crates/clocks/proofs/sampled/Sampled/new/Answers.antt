@@ -12,4 +12,5 @@ returns-then-period-lag-gt-LONGEST-LAG g c = record {
   made = grind (arith, tells, product-long (c .args .period) (g .C·WindowClock .lag (c .args .below)) (c .lag .result) (c .lag .ensures) (omega arith));
   rule = c .laws .ensures .rule;
   edge = c .laws .ensures .edge;
+  in-time = c .laws .ensures .in-time;
 }

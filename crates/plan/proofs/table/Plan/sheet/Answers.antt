@@ -1,4 +1,4 @@
-use mathlib.Core.Path.{_≡_, sym, subst}
+use mathlib.Core.Path.{sym, subst}
 use borrow.Author.Needs.{needs}
 use Rattle.plan.specs.Plans.{table-of}
 use Rattle.plan.specs.Sheets.{Most-loaded}

@@ -1,6 +1,6 @@
 use borrow.Author.Needs.{needs}
 use Rattle.plan.proofs.Tables.{flows-counted}
-use Rattle.plan.proofs.table.Plan.flows.Needs as need
+use Rattle.plan.proofs.table.Plan.flow_count.Needs as need
 
 pub returns : need.returns
 returns c = search (needs, flows-counted)
