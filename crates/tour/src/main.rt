@@ -1,6 +1,7 @@
 //! Plans the flows of a label printer on the 8 by 8 mesh, shows its clock, its
-//! arbiter and the account of a camera at work, and prints each step.
+//! arbiter, the account of a camera and a source at work, and prints each step.
 mod accounting;
+mod feeding;
 mod planning;
 mod stop;
 mod timing;
@@ -48,5 +49,6 @@ fn main(rt: LibcRuntime) -> Result<(), Stop> {
     )?;
     timing::show_clock(&rt)?;
     timing::show_arbiter(&rt, 253, &[6, 7, 8])?;
-    accounting::show_account(&rt, 24, 64, window)
+    accounting::show_account(&rt, 24, 64, window)?;
+    feeding::show_source(&rt, 4, 4, window, &[26, 27, 255])
 }

@@ -2,6 +2,7 @@ use accounts::AccountRefusal;
 use clocks::ClockRefusal;
 use mesh::MeshRefusal;
 use plan::PlanRefusal;
+use routes::RouteRefusal;
 use std::alloc::Refused;
 use std::io;
 
@@ -9,6 +10,7 @@ use std::io;
 #[derive(Drop)]
 pub enum Stop {
     Mesh(MeshRefusal),
+    Route(RouteRefusal),
     Plan(PlanRefusal),
     Clock(ClockRefusal),
     Account(AccountRefusal),
@@ -19,6 +21,12 @@ pub enum Stop {
 pub impl From<MeshRefusal> for Stop as StopFromMesh {
     fn from(refusal: MeshRefusal) -> Stop {
         Stop::Mesh(refusal)
+    }
+}
+
+pub impl From<RouteRefusal> for Stop as StopFromRoute {
+    fn from(refusal: RouteRefusal) -> Stop {
+        Stop::Route(refusal)
     }
 }
 

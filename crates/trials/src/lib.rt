@@ -1,5 +1,7 @@
 //! Examples at the edges of the rules, each proved safe and then run.
 #[cfg(test)]
+mod feeds;
+#[cfg(test)]
 mod ledgers;
 #[cfg(test)]
 mod meshes;
