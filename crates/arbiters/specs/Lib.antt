@@ -6,3 +6,4 @@ pub mod Rules
 pub mod Edges
 pub mod Answering
 pub mod RoundsLemmas
+pub mod Belonging

@@ -6,6 +6,7 @@ ghost use Rattle.arbiters.specs.FlowSets.{has};
 ghost use Rattle.folds.specs.Firsts.{first_of};
 ghost use Rattle.folds.proofs.Orders.{in_order};
 ghost use Rattle.arbiters.specs.Answering.{within_some, member_below};
+ghost use Rattle.arbiters.specs.Belonging.{recent_belongs, recent_nobody};
 ghost use Rattle.std.proofs.Common.{arith, rules};
 
 use crate::arbiter::{Arbiter, CHANNELS};
@@ -43,7 +44,11 @@ impl Arbiter for LeastRecentlyGranted {
 
     ghost granted = { recent_granted };
 
+    ghost belongs = { recent_belongs };
+
     ghost chooses = { λ a c s f l h. within_some c (first_of (has s) (order_of a c).flows) l (in_order (has s) f (order_of a c).flows (omega (arith, (order_of a c).ok f (member_below s f h))) h) };
+
+    ghost nobody = { recent_nobody };
 
     ghost nowhere = { Prim.search rules };
 

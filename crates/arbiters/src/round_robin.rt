@@ -4,6 +4,7 @@ ghost use Rattle.arbiters.specs.Rounds.{fresh_round, round_choice, round_granted
 ghost use Rattle.arbiters.specs.Rules.{RoundRule};
 ghost use Rattle.arbiters.specs.Answering.{within_some};
 ghost use Rattle.arbiters.specs.RoundsLemmas.{next_chooses};
+ghost use Rattle.arbiters.specs.Belonging.{round_belongs, round_nobody};
 ghost use Rattle.std.proofs.Common.{rules};
 
 use crate::arbiter::{Arbiter, CHANNELS};
@@ -38,7 +39,11 @@ impl Arbiter for RoundRobin {
 
     ghost granted = { round_granted };
 
+    ghost belongs = { round_belongs };
+
     ghost chooses = { λ a c s f l h. within_some c (next_after (slice_index a.last c) s) l (next_chooses (slice_index a.last c) s f h) };
+
+    ghost nobody = { round_nobody };
 
     ghost nowhere = { Prim.search rules };
 

@@ -1,5 +1,5 @@
 -- A list of channels from place i on, one step on and at its end.
-use Rattle.std.proofs.Common.{◌≡◌, ℕ, ◌+◌, ◌-◌, ◌<◌, ◌≤◌, Bool, true, ◌&&◌, eqb, ltb, List, [], ◌∷◌, length, get_or, drop, Decides, sym, refl, ap, ◌∙◌, arith}
+use Rattle.std.proofs.Common.{◌≡◌, ℕ, ◌+◌, ◌-◌, ◌<◌, ◌≤◌, Bool, true, ◌&&◌, eqb, ltb, List, [], ◌∷◌, length, get_or, drop, sym, refl, ap, ◌∙◌, arith}
 use Rattle.std.proofs.lemmas.List.{at_drop_more, at_drop_all, drop_more, length-drop}
 use Rattle.std.specs.List.{IsAnyAnswer}
 use Rattle.std.proofs.lemmas.List.Elements.{contains_decides}
@@ -36,7 +36,7 @@ pub rises_end : (cs : List ℕ) (i : ℕ) → length cs ≤ i → rises (drop (i
 rises_end cs i l = short (drop (i - 1) cs) (simp length-drop (omega arith))
 
 -- what `contains` answers of a slice xs that holds cs
-pub contains_crosses : (cs xs : List ℕ) (c : ℕ) (r : Bool) → IsAnyAnswer (λ y t. Decides t (y ≡ c)) xs r → xs ≡ cs → r ≡ crosses cs c
+pub contains_crosses : (cs xs : List ℕ) (c : ℕ) (r : Bool) → IsAnyAnswer (λ y t. eqb y c ≡ t) xs r → xs ≡ cs → r ≡ crosses cs c
 contains_crosses cs xs c r h e =
     same_from_decides r (crosses xs c) (contains_decides eqb Decides-eqb xs c r h) (Decides-by_or (λ x. eqb x c) (λ x. x ≡ c) (λ xs. crosses xs c) (λ x. Decides-eqb x c) refl (λ _ _. refl) xs)
     ∙ ap (λ ds. crosses ds c) e

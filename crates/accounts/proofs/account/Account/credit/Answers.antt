@@ -11,5 +11,5 @@ returns c =
     let few : ahead ≤ 6 = omega arith in
     let most : a.slots ≤ 4096 = omega arith in
     let fits = mul-le-mul few most in
-    let product = c.slots-in.ensures ∙ ap (λ n. n * a.slots) c.frames-ahead.ensures ∙ mul_comm ahead a.slots in
+    let product = c.slots_in.ensures ∙ ap (λ n. n * a.slots) c.frames_ahead.ensures ∙ mul_comm ahead a.slots in
     record { figure = omega (arith, ints); spent = spent_exactly (ledger a); frame = frame_given (ledger a) (omega arith) }

@@ -9,7 +9,7 @@ pub returns : goal.returns
 returns c =
     let terms : Terms (fresh c.args.slots c.args.largest c.args.window) = search rules in
     let p = promise_at c.args.slots c.args.largest c.args.window (to_z w64 c.args.slots) terms (omega (arith, ints)) in
-    let e = c.worked-examples.ensures in
+    let e = c.worked_examples.ensures in
     record {
       answer = search rules;
       limits = p.limits;

@@ -17,8 +17,8 @@ loop-flow-preserved c =
 all_filled : (flows : List ℕ) (i : ℕ) → flows ≡ filled (λ k. k) 0 i 64 → 64 ≤ i → i ≤ 64 → flows ≡ rising 64
 all_filled flows i h l m = h ∙ filled_all (λ k. k) 0 i 64 l m
 
-pub invariant-of-result : goal.invariant-of-result
-invariant-of-result c =
+pub invariant_of-result : goal.invariant_of-result
+invariant_of-result c =
     let e = all_filled c.loop-flow.flows c.loop-flow.flow c.loop-flow.invariant (omega arith) (omega arith) in
     (subst (λ (fs : List ℕ). EachOnce 64 fs) (sym e) (rising_once 64), tt)
 

@@ -3,13 +3,13 @@ use Rattle.std.proofs.lemmas.Bool.Decides.{nat_tests}
 use Rattle.clocks.specs.Products.{product_small, product_long}
 use Rattle.clocks.proofs.sampled.Sampled.new.Goals as goal
 
-pub overflow-mul-period : goal.overflow-mul-period
-overflow-mul-period g c = search (rules, product_small)
+pub overflow_mul-period : goal.overflow_mul-period
+overflow_mul-period g c = search (rules, product_small)
 
-pub returns-then-period-lag-gt-LONGEST-LAG : goal.returns-then-period-lag-gt-LONGEST-LAG
-returns-then-period-lag-gt-LONGEST-LAG g c = record {
+pub returns-then-period-lag-gt-LONGEST_LAG : goal.returns-then-period-lag-gt-LONGEST_LAG
+returns-then-period-lag-gt-LONGEST_LAG g c = record {
   made = grind (arith, nat_tests, product_long c.args.period (g.C.WindowClock.lag c.args.below) c.lag.result c.lag.ensures (omega arith));
   rule = c.laws.ensures.rule;
   edge = c.laws.ensures.edge;
-  in-time = c.laws.ensures.in-time;
+  in_time = c.laws.ensures.in_time;
 }

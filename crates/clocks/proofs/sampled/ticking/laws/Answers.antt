@@ -10,5 +10,5 @@ returns g c =
     record {
       rule = sampled_rule _ _;
       edge = two_over_two;
-      in-time = λ x. let r = shifts_soon g.C.WindowClock met.positive met.falls x in (r.0, omega (arith, r.1, met.within x), r.2);
+      in_time = λ x. let r = shifts_soon g.C.WindowClock met.positive met.falls x in (r.0, omega (arith, r.1, met.within x), r.2);
     }

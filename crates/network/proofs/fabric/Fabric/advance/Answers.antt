@@ -13,8 +13,8 @@ land-requires c =
     let p = c.requires in
     (c.depart.ensures.sized, low_after c.args.self.now c.args.channel c.args.grant c.in-Some.crossing p.0 p.1.0 p.1.1.0 p.1.1.1 c.in-Some.ensures c.depart.new.self c.depart.ensures.state c.depart.ensures.sized)
 
-pub overflow-sub-self : goal.overflow-sub-self
-overflow-sub-self c =
+pub overflow_sub-self : goal.overflow_sub-self
+overflow_sub-self c =
     let p = c.requires in
     let d = c.depart.ensures in
     let l = c.land.ensures in

@@ -5,38 +5,38 @@ use Rattle.network.proofs.Holding.{sum_eight}
 use Rattle.network.proofs.Offering.{few_held}
 use Rattle.network.proofs.fabric.Fabric.held.Goals as goal
 
-pub overflow-add-result : goal.overflow-add-result
-overflow-add-result c =
+pub overflow_add-result : goal.overflow_add-result
+overflow_add-result c =
     let f = c.args.self.now in
     omega (arith, few_held f 0 c.requires, few_held f 1 c.requires, few_held f 2 c.requires, few_held f 3 c.requires, few_held f 4 c.requires, few_held f 5 c.requires, few_held f 6 c.requires, few_held f 7 c.requires)
 
-pub overflow-add-result-2 : goal.overflow-add-result-2
-overflow-add-result-2 c =
+pub overflow_add-result-2 : goal.overflow_add-result-2
+overflow_add-result-2 c =
     let f = c.args.self.now in
     omega (arith, few_held f 0 c.requires, few_held f 1 c.requires, few_held f 2 c.requires, few_held f 3 c.requires, few_held f 4 c.requires, few_held f 5 c.requires, few_held f 6 c.requires, few_held f 7 c.requires)
 
-pub overflow-add-result-3 : goal.overflow-add-result-3
-overflow-add-result-3 c =
+pub overflow_add-result-3 : goal.overflow_add-result-3
+overflow_add-result-3 c =
     let f = c.args.self.now in
     omega (arith, few_held f 0 c.requires, few_held f 1 c.requires, few_held f 2 c.requires, few_held f 3 c.requires, few_held f 4 c.requires, few_held f 5 c.requires, few_held f 6 c.requires, few_held f 7 c.requires)
 
-pub overflow-add-result-4 : goal.overflow-add-result-4
-overflow-add-result-4 c =
+pub overflow_add-result-4 : goal.overflow_add-result-4
+overflow_add-result-4 c =
     let f = c.args.self.now in
     omega (arith, few_held f 0 c.requires, few_held f 1 c.requires, few_held f 2 c.requires, few_held f 3 c.requires, few_held f 4 c.requires, few_held f 5 c.requires, few_held f 6 c.requires, few_held f 7 c.requires)
 
-pub overflow-add-result-5 : goal.overflow-add-result-5
-overflow-add-result-5 c =
+pub overflow_add-result-5 : goal.overflow_add-result-5
+overflow_add-result-5 c =
     let f = c.args.self.now in
     omega (arith, few_held f 0 c.requires, few_held f 1 c.requires, few_held f 2 c.requires, few_held f 3 c.requires, few_held f 4 c.requires, few_held f 5 c.requires, few_held f 6 c.requires, few_held f 7 c.requires)
 
-pub overflow-add-result-6 : goal.overflow-add-result-6
-overflow-add-result-6 c =
+pub overflow_add-result-6 : goal.overflow_add-result-6
+overflow_add-result-6 c =
     let f = c.args.self.now in
     omega (arith, few_held f 0 c.requires, few_held f 1 c.requires, few_held f 2 c.requires, few_held f 3 c.requires, few_held f 4 c.requires, few_held f 5 c.requires, few_held f 6 c.requires, few_held f 7 c.requires)
 
-pub overflow-add-result-7 : goal.overflow-add-result-7
-overflow-add-result-7 c =
+pub overflow_add-result-7 : goal.overflow_add-result-7
+overflow_add-result-7 c =
     let f = c.args.self.now in
     omega (arith, few_held f 0 c.requires, few_held f 1 c.requires, few_held f 2 c.requires, few_held f 3 c.requires, few_held f 4 c.requires, few_held f 5 c.requires, few_held f 6 c.requires, few_held f 7 c.requires)
 

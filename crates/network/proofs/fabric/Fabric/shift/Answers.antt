@@ -11,9 +11,9 @@ returns c =
     let f = c.args.self.now in
     let n = net_of f in
     let p = c.requires in
-    let f1 = c.shift-rows.new.self in
+    let f1 = c.shift_rows.new.self in
     let b = c.turn.new.self in
-    let e = c.shift-rows.ensures in
+    let e = c.shift_rows.ensures in
     let is = shifted_is n f.held p.0.2 p.1.0 p.1.1 f1 b e.state e.sized c.turn.ensures.state in
     let sound = still_sound n f.held p.0.2 p.1.0 p.1.1 f1.held e.held in
     record {

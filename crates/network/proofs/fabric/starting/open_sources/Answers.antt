@@ -9,20 +9,20 @@ use Rattle.network.proofs.fabric.starting.open_sources.Goals as goal
 pub loop-flow-init : goal.loop-flow-init
 loop-flow-init c = (refl, refl)
 
-pub open-source-requires : goal.open-source-requires
-open-source-requires c =
+pub open_source-requires : goal.open_source-requires
+open_source-requires c =
     subst (Reserved c.index-rows-flow.result) (sym (ap (λ (s : Settings). s.window) c.settings-window.ensures))
     (row_reserved c.args.plan.now c.rows-rows.result.now c.rows-rows.ensures c.loop-flow.flow c.index-rows-flow.result c.loop-flow-test.true c.index-rows-flow.is)
 
-pub offset-bounds-sources-flow : goal.offset-bounds-sources-flow
-offset-bounds-sources-flow c = omega (arith, c.loop-flow-test.true, rows_counted c.args.plan.now c.rows-rows.result.now c.rows-rows.ensures, c.args.plan.now.few)
+pub offset_bounds-sources-flow : goal.offset_bounds-sources-flow
+offset_bounds-sources-flow c = omega (arith, c.loop-flow-test.true, rows_counted c.args.plan.now c.rows-rows.result.now c.rows-rows.ensures, c.args.plan.now.few)
 
 pub bounds-sources-flow : goal.bounds-sources-flow
 bounds-sources-flow c = omega (arith, c.loop-flow-test.true, rows_counted c.args.plan.now c.rows-rows.result.now c.rows-rows.ensures, c.args.plan.now.few)
 
 pub loop-flow-preserved : goal.loop-flow-preserved
 loop-flow-preserved c =
-    one_opened c.args.plan.now c.rows-rows.result.now c.rows-rows.ensures c.settings-window.result.window c.loop-flow.flow c.loop-flow.sources c.open-source.result c.index-rows-flow.result c.loop-flow-test.true c.index-rows-flow.is c.loop-flow.invariant c.open-source.ensures
+    one_opened c.args.plan.now c.rows-rows.result.now c.rows-rows.ensures c.settings-window.result.window c.loop-flow.flow c.loop-flow.sources c.open_source.result c.index-rows-flow.result c.loop-flow-test.true c.index-rows-flow.is c.loop-flow.invariant c.open_source.ensures
 
 pub returns : goal.returns
 returns c = record {

@@ -8,8 +8,8 @@ use Rattle.plan.proofs.table.Plan.crossings.Goals as goal
 pub crossings-sum-requires : goal.crossings-sum-requires
 crossings-sum-requires c = search (rules, rows_ranged, frame_range)
 
-pub overflow-add-sum : goal.overflow-add-sum
-overflow-add-sum c = search (rules, sum_more flow_crossings, sum_part flow_crossings, crossings_bounded)
+pub overflow_add-sum : goal.overflow_add-sum
+overflow_add-sum c = search (rules, sum_more flow_crossings, sum_part flow_crossings, crossings_bounded)
 
 pub loop-row-preserved : goal.loop-row-preserved
 loop-row-preserved c = search (rules, sum_more flow_crossings)

@@ -10,8 +10,8 @@ listed c = search (rules, room_left)
 pub bounds-self-flow : goal.bounds-self-flow
 bounds-self-flow c = search (rules, room_left)
 
-pub invariant-of-self : goal.invariant-of-self
-invariant-of-self c = search (rules, length-set, room_left, fit_after, loaded_after)
+pub invariant_of-self : goal.invariant_of-self
+invariant_of-self c = search (rules, length-set, room_left, fit_after, loaded_after)
 
 pub returns : goal.returns
 returns c = search (rules, flows_counted, pushed)

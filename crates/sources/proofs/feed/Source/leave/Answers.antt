@@ -3,5 +3,5 @@ use Rattle.std.proofs.lemmas.List.{length-set}
 use Rattle.sources.proofs.Leaving.{counted_left, ordered_left}
 use Rattle.sources.proofs.feed.Source.leave.Goals as goal
 
-pub invariant-of-self : goal.invariant-of-self
-invariant-of-self c = search (rules, length-set, counted_left, ordered_left)
+pub invariant_of-self : goal.invariant_of-self
+invariant_of-self c = search (rules, length-set, counted_left, ordered_left)

@@ -3,8 +3,8 @@ use Rattle.std.proofs.lemmas.List.{length-set}
 use Rattle.sources.proofs.Offering.{still_owed, accepted_few, place_few, still_counted, still_ordered}
 use Rattle.sources.proofs.feed.Source.offer.Goals as goal
 
-pub overflow-add-self : goal.overflow-add-self
-overflow-add-self c =
+pub overflow_add-self : goal.overflow_add-self
+overflow_add-self c =
     let s = c.args.self.now in
     omega (
       arith,
@@ -12,8 +12,8 @@ overflow-add-self c =
       accepted_few s c.args.size c.in-Ok.frame c.offer.new.self c.in-Ok.ensures.answer c.offer.ensures.leaves c.head.result c.head.ensures,
     )
 
-pub invariant-of-self : goal.invariant-of-self
-invariant-of-self c =
+pub invariant_of-self : goal.invariant_of-self
+invariant_of-self c =
     let s = c.args.self.now in (
       length-set s.waiting _ _ ∙ s.sized,
       (

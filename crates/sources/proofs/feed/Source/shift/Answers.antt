@@ -7,12 +7,12 @@ use Rattle.sources.specs.Sources.{line_of}
 use Rattle.sources.proofs.Leaving.{moved_up, counted_shift, ordered_shift, owed_shift, run_goes_on}
 use Rattle.sources.proofs.feed.Source.shift.Goals as goal
 
-pub invariant-of-self : goal.invariant-of-self
-invariant-of-self c =
+pub invariant_of-self : goal.invariant_of-self
+invariant_of-self c =
     let s = c.args.self.now in
     let l = ledger s.account in
     let a = c.shift.new.self in
-    let run : in_run l ≡ true = run_goes_on l c.shift.result c.shift.ensures.answer c.if-is-err.ensures.value in
+    let run : in_run l ≡ true = run_goes_on l c.shift.result c.shift.ensures.answer c.if-is_err.ensures.value in
     let m : ledger a ≡ shifted l = c.shift.ensures.leaves ∙ ap (λ b. cond b (shifted l) l) run in
     let z : get_or s.waiting 0 0 ≡ 0 = omega arith in
     let up = sym (moved_up s.waiting s.sized) in (
@@ -30,7 +30,7 @@ pub returns : goal.returns
 returns c =
     let s = c.args.self.now in
     let l = ledger s.account in
-    let run : in_run l ≡ true = run_goes_on l c.shift.result c.shift.ensures.answer c.if-is-err.ensures.value in
+    let run : in_run l ≡ true = run_goes_on l c.shift.result c.shift.ensures.answer c.if-is_err.ensures.value in
     let m : ledger c.shift.new.self ≡ shifted l = c.shift.ensures.leaves ∙ ap (λ b. cond b (shifted l) l) run in
     let z : get_or s.waiting 0 0 ≡ 0 = omega arith in
     let up = moved_up s.waiting s.sized in

@@ -2,5 +2,5 @@ use Rattle.std.proofs.Common.{refl, arith}
 use Rattle.sources.proofs.Opening.{none_waiting}
 use Rattle.sources.proofs.feed.Source.untouched.Goals as goal
 
-pub invariant-of-result : goal.invariant-of-result
-invariant-of-result c = (refl, (refl, ((λ k _. none_waiting k), (c.requires, (omega arith, tt)))))
+pub invariant_of-result : goal.invariant_of-result
+invariant_of-result c = (refl, (refl, ((λ k _. none_waiting k), (c.requires, (omega arith, tt)))))
