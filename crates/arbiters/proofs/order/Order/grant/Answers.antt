@@ -10,7 +10,7 @@ moved_to_end-self-requires c = c.args.self.now.ok c.args.flow c.requires
 pub invariant_of-self : goal.invariant_of-self
 invariant_of-self c =
     let o = c.args.self.now in
-    (subst (λ (fs : List ℕ). EachOnce 64 fs) (sym c.moved_to_end-self.ensures) (moved_once 64 c.args.flow o.flows o.ok), tt)
+    record { ok = subst (λ (fs : List ℕ). EachOnce 64 fs) (sym c.moved_to_end-self.ensures) (moved_once 64 c.args.flow o.flows o.ok) }
 
 pub returns : goal.returns
 returns c = same_order _ _ c.moved_to_end-self.ensures

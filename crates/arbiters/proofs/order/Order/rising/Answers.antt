@@ -20,7 +20,7 @@ all_filled flows i h l m = h ∙ filled_all (λ k. k) 0 i 64 l m
 pub invariant_of-result : goal.invariant_of-result
 invariant_of-result c =
     let e = all_filled c.loop-flow.flows c.loop-flow.flow c.loop-flow.invariant (omega arith) (omega arith) in
-    (subst (λ (fs : List ℕ). EachOnce 64 fs) (sym e) (rising_once 64), tt)
+    record { ok = subst (λ (fs : List ℕ). EachOnce 64 fs) (sym e) (rising_once 64) }
 
 pub returns : goal.returns
 returns c = same_order _ _ (all_filled c.loop-flow.flows c.loop-flow.flow c.loop-flow.invariant (omega arith) (omega arith))

@@ -14,16 +14,11 @@ overflow_add-self c =
 
 pub invariant_of-self : goal.invariant_of-self
 invariant_of-self c =
-    let s = c.args.self.now in (
-      length-set s.waiting _ _ ∙ s.sized,
-      (
-        still_counted s c.args.size c.in-Ok.frame c.offer.new.self c.in-Ok.ensures.answer c.offer.ensures.leaves c.head.result c.head.ensures,
-        (
-          still_ordered s c.args.size c.in-Ok.frame c.offer.new.self c.in-Ok.ensures.answer c.offer.ensures.leaves c.head.result c.head.ensures,
-          (
-            still_owed s c.args.size c.in-Ok.frame c.offer.new.self c.in-Ok.ensures.answer c.offer.ensures.leaves c.head.result c.head.ensures,
-            (s.arrived, tt),
-          ),
-        ),
-      ),
-    )
+    let s = c.args.self.now in
+    record {
+      sized = length-set s.waiting _ _ ∙ s.sized;
+      counted = still_counted s c.args.size c.in-Ok.frame c.offer.new.self c.in-Ok.ensures.answer c.offer.ensures.leaves c.head.result c.head.ensures;
+      ordered = still_ordered s c.args.size c.in-Ok.frame c.offer.new.self c.in-Ok.ensures.answer c.offer.ensures.leaves c.head.result c.head.ensures;
+      owed = still_owed s c.args.size c.in-Ok.frame c.offer.new.self c.in-Ok.ensures.answer c.offer.ensures.leaves c.head.result c.head.ensures;
+      arrived = s.arrived;
+    }

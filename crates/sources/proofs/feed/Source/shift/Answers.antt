@@ -15,16 +15,14 @@ invariant_of-self c =
     let run : in_run l ≡ true = run_goes_on l c.shift.result c.shift.ensures.answer c.if-is_err.ensures.value in
     let m : ledger a ≡ shifted l = c.shift.ensures.leaves ∙ ap (λ b. cond b (shifted l) l) run in
     let z : get_or s.waiting 0 0 ≡ 0 = omega arith in
-    let up = sym (moved_up s.waiting s.sized) in (
-      refl,
-      (
-        subst (λ ws. s.sent + sum ws ≡ s.accepted) up (counted_shift s a m z),
-        (
-          subst (λ ws. (k : ℕ) → a.frame < a.head + k → get_or ws k 0 ≡ 0) up (ordered_shift s a m z),
-          (owed_shift s a m z, (s.arrived, tt)),
-        ),
-      ),
-    )
+    let up = sym (moved_up s.waiting s.sized) in
+    record {
+      sized = refl;
+      counted = subst (λ ws. s.sent + sum ws ≡ s.accepted) up (counted_shift s a m z);
+      ordered = subst (λ ws. (k : ℕ) → a.frame < a.head + k → get_or ws k 0 ≡ 0) up (ordered_shift s a m z);
+      owed = owed_shift s a m z;
+      arrived = s.arrived;
+    }
 
 pub returns : goal.returns
 returns c =
