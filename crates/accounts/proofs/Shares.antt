@@ -10,7 +10,6 @@ use Rattle.accounts.specs.Calls.{Event, accepted, refused, shift_made, events, a
 use Rattle.accounts.specs.Counts.{flits_in, held}
 use Rattle.accounts.specs.Laws.{Shares}
 use Rattle.accounts.specs.Accounts.{fresh}
-use Rattle.accounts.proofs.Refills.{at}
 use Rattle.accounts.proofs.Steps.{Accepts, Kept, Happens, Follows, happens_kept, follows}
 
 -- at r slots a frame, with the balance c in the frame f: the frames from a on got, with c, at most the slots of a to f;

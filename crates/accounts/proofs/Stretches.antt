@@ -1,5 +1,5 @@
 -- Stretches: from one refusal for a spent window to another, s shifts come with s × R accepted flits, give or take L - 1.
-use Rattle.std.proofs.Common.{◌≡◌, ℕ, suc, ◌+◌, ◌-◌, ◌*◌, ◌≤◌, Bool, true, false, cond, eqb, ◌⊎◌, List, [], ◌∷◌, ◌++◌, ℤ, pos, ◌+ℤ◌, ◌-ℤ◌, ◌≤ℤ◌, sym, refl, ap, ◌∙◌, subst, inl, inr, ⊎_elim, suc-mul, mul_comm, zero-mul, mul-suc, mul-add, arith}
+use Rattle.std.proofs.Common.{◌≡◌, ℕ, suc, ◌+◌, ◌-◌, ◌*◌, ◌≤◌, Bool, true, false, cond, eqb, ◌⊎◌, List, [], ◌∷◌, ◌++◌, pos, ◌+ℤ◌, ◌-ℤ◌, ◌≤ℤ◌, sym, refl, ap, ◌∙◌, subst, inl, inr, ⊎_elim, suc-mul, mul_comm, zero-mul, mul-suc, mul-add, arith}
 use Rattle.std.proofs.lemmas.Int.{ints, clamps}
 use Rattle.std.proofs.lemmas.Bool.{eqb-true, eqb-false}
 use Rattle.std.specs.Int.{int_min}
@@ -11,7 +11,6 @@ use Rattle.accounts.specs.Credits.{credit}
 use Rattle.accounts.specs.Laws.{InStep, Stretches, Bring, stretch_least, stretch_most}
 use Rattle.accounts.specs.declared.refusal.AccountRefusal.{AccountRefusal}
 use Rattle.accounts.specs.declared.refusal.AccountRefusal.TheVariants.{WindowRange, SlotsRange, LargestRange, SizeRange, WindowSpent, RunOver}
-use Rattle.accounts.proofs.Refills.{at}
 use Rattle.accounts.proofs.Steps.{Accepts, Kept, Happens, Follows, happens_kept, follows_kept, follows_append, follows}
 
 -- the credit is never below 1 - L

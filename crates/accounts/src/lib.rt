@@ -1,4 +1,6 @@
 //! The account of a flow: which frame each of its packets gets, and what that promises over frames.
+#![tactic(auto)]
+
 pub mod account;
 pub mod refusal;
 

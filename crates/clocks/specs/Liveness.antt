@@ -1,4 +1,4 @@
-use Rattle.std.specs.Prelude.{◌≡◌, ℕ, zero, suc, ◌<◌, Bool, true}
+use Rattle.std.specs.Prelude.{◌≡◌, ℕ, zero, suc, ◌<◌, true}
 use Rattle.clocks.specs.declared.clock.WindowClock as clock
 
 module _ {C : Type 0} (k : clock.Ghosts C) where

@@ -1,4 +1,6 @@
 //! Window clocks: when the window of frames may shift.
+#![tactic(auto)]
+
 pub mod barrier;
 pub mod clock;
 pub mod refusal;

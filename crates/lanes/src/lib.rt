@@ -1,4 +1,6 @@
 //! Flits, and the buffers that they wait in.
+#![tactic(auto)]
+
 pub mod buffer;
 pub mod buffers;
 pub mod flits;

@@ -1,5 +1,5 @@
 -- Where a channel stands on a route: at which hop, behind which channel, before which.
-use Rattle.std.specs.Prelude.{ℕ, ◌+◌, ◌-◌, ◌<◌, Bool, cond, List, length, Some, None, Option, ◌==◌, nat_eq, nat_lt, slice_index}
+use Rattle.std.specs.Prelude.{ℕ, ◌+◌, ◌-◌, ◌<◌, cond, List, length, Some, None, Option, ◌==◌, nat_eq, nat_lt, slice_index}
 use Rattle.folds.specs.Firsts.{first_up}
 use Rattle.routes.specs.declared.crossing.Crossing.{Crossing}
 

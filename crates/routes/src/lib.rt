@@ -1,4 +1,6 @@
 //! Routes: the channels that a flow crosses, in the order of crossing.
+#![tactic(auto)]
+
 pub mod crossing;
 pub mod path;
 

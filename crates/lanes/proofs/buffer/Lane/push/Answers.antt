@@ -1,5 +1,5 @@
 use Rattle.std.proofs.Common.{rules}
-use Rattle.lanes.proofs.Queues.{has_place, has_no_place, one_more}
+use Rattle.lanes.proofs.Queues.{has_place, one_more}
 use Rattle.lanes.proofs.buffer.Lane.push.Goals as goal
 
 pub returns : goal.returns

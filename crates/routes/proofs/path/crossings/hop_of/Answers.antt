@@ -1,4 +1,4 @@
-use Rattle.std.proofs.Common.{sym, ◌∙◌, arith, rules}
+use Rattle.std.proofs.Common.{arith, rules}
 use Rattle.std.proofs.lemmas.Bool.{eq-eqb, ne_eqb}
 use Rattle.folds.proofs.Firsts.{first_hit, first_miss, first_end}
 use Rattle.routes.proofs.path.crossings.hop_of.Goals as goal
