@@ -8,7 +8,7 @@ import os
 import re
 import sys
 
-KIT = ["in_err", "in_ok", "invariant_of", "write_str", "write_fmt", "from_residual", "range_from", "range_to",
+KIT = ["in_err", "in_ok", "in_default", "invariant_of", "write_str", "write_fmt", "from_residual", "range_from", "range_to",
        "offset_bounds", "as_ref", "as_mut", "is_some", "is_none", "is_ok", "is_err", "iter_mut", "saturating_add",
        "index_mut", "clone_from", "size_hint", "type_inv", "well_formed"]
 KIT += [f"overflow_{word}" for word in ("add", "sub", "mul", "cast", "shl", "shr", "div", "rem", "neg")]

@@ -1,4 +1,6 @@
 //! Arbiters: who crosses a channel.
+#![tactic(auto)]
+
 pub mod arbiter;
 pub mod flow_set;
 pub mod least_recently_granted;

@@ -1,4 +1,6 @@
 //! Routes on a square mesh of nodes: along x, then along y, then out.
+#![tactic(auto)]
+
 pub mod node;
 pub mod refusal;
 pub mod square;

@@ -1,4 +1,6 @@
 //! The running network: starting a plan, offering packets, making cycles.
+#![tactic(auto)]
+
 pub mod counts;
 pub mod fabric;
 pub mod granting;

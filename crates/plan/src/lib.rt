@@ -1,4 +1,6 @@
 //! Slot tables: settings, reservations, loads and the sheet of figures.
+#![tactic(auto)]
+
 pub mod refusal;
 pub mod rows;
 pub mod setting;

@@ -1,4 +1,6 @@
 //! The source of a flow: its account, the flits that wait there, and its counts.
+#![tactic(auto)]
+
 pub mod feed;
 pub mod refusal;
 

@@ -1,5 +1,7 @@
 //! Plans the flows of a label printer on the 8 by 8 mesh, shows its clock, its
 //! arbiter, the account of a camera and a source at work, and prints each step.
+#![tactic(auto)]
+
 mod accounting;
 mod feeding;
 mod planning;

@@ -7,7 +7,7 @@ use std::alloc::AllocFailed;
 use std::io;
 
 /// Why the tour ends early.
-#[derive(Drop)]
+#[derive(Debug, Drop)]
 pub enum Stop {
     Mesh(MeshRefusal),
     Route(RouteRefusal),

@@ -1,4 +1,6 @@
 //! Plans the flows of a label printer on the 8 by 8 mesh, runs its network, and prints what is promised and what moves.
+#![tactic(auto)]
+
 mod moving;
 mod stop;
 mod wishes;

@@ -5,7 +5,7 @@ use running::RunRefusal;
 use std::io;
 
 /// Why the run ends early.
-#[derive(Drop)]
+#[derive(Debug, Drop)]
 pub enum Stop {
     Mesh(MeshRefusal),
     Plan(PlanRefusal),

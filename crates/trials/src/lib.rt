@@ -1,4 +1,6 @@
 //! Examples at the edges of the rules, each proved safe and then run.
+#![tactic(auto)]
+
 #[cfg(test)]
 mod feeds;
 #[cfg(test)]

@@ -3,10 +3,10 @@ use Rattle.network.specs.Landings.{ends}
 use Rattle.network.proofs.Advancing.{after, marked, some_left, last_kept, on_kept, low_after, departs_some}
 use Rattle.network.proofs.fabric.Fabric.advance.Goals as goal
 
-pub returns-in-default-depart : goal.returns-in-default-depart
-returns-in-default-depart c =
+pub returns-in_default-depart : goal.returns-in_default-depart
+returns-in_default-depart c =
     let p = c.requires in
-    departs_some c.args.self.now c.args.channel c.args.grant c.in-Some.crossing p.0 p.1.0 p.1.1.0 p.1.1.1 c.in-Some.ensures c.in-default-depart.ensures.answer
+    departs_some c.args.self.now c.args.channel c.args.grant c.in-Some.crossing p.0 p.1.0 p.1.1.0 p.1.1.1 c.in-Some.ensures c.in_default-depart.ensures.answer
 
 pub land-requires : goal.land-requires
 land-requires c =
