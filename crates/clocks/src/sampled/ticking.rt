@@ -54,9 +54,9 @@ impl<C: WindowClock> WindowClock for Sampled<C> {
 
     ghost within = { λ c. omega (arith, mul-le-mul_left c.period (C.WindowClock.within c.below)) };
 
-    ghost steady = { first_of (Prim.search rules, Prim.grind (arith, Self.row.coded.inj)) };
+    ghost steady = { Prim.search rules };
 
-    ghost busy = { first_of (Prim.search rules, Prim.grind (arith, Self.row.coded.inj)) };
+    ghost busy = { Prim.search rules };
 
     ghost falls = { λ c h.
         let k = C.WindowClock in

@@ -41,15 +41,15 @@ impl WindowClock for Timer {
 
     ghost told = { timer_told };
 
-    ghost positive = { first_of (Prim.search rules, Prim.grind (arith, Self.row.coded.inj)) };
+    ghost positive = { Prim.search rules };
 
-    ghost within = { first_of (Prim.search rules, Prim.grind (arith, Self.row.coded.inj)) };
+    ghost within = { Prim.search rules };
 
-    ghost steady = { first_of (Prim.search rules, Prim.grind (arith, Self.row.coded.inj)) };
+    ghost steady = { Prim.search rules };
 
-    ghost busy = { first_of (Prim.search rules, Prim.grind (arith, Self.row.coded.inj)) };
+    ghost busy = { Prim.search rules };
 
-    ghost falls = { first_of (Prim.search rules, Prim.grind (arith, Self.row.coded.inj)) };
+    ghost falls = { Prim.search rules };
 
     fn tick(&mut self, empty: bool) -> bool {
         if self.since + 1 < self.period {
