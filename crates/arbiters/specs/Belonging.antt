@@ -1,4 +1,4 @@
-use Rattle.std.specs.Prelude.{◌≡◌, ℕ, Bool, true, false, List, Some, None, Option, slice_index}
+use Rattle.std.specs.Prelude.{◌≡◌, ℕ, Bool, true, false, List, Some, None, slice_index}
 use Rattle.folds.specs.Firsts.{first_of}
 use Rattle.folds.proofs.Firsts.{of_passes}
 use Rattle.arbiters.specs.Answering.{within_belongs, none_of_empty}

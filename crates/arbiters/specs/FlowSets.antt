@@ -1,4 +1,4 @@
-use Rattle.std.specs.Prelude.{ℕ, ◌-◌, Bool, true, false, ◌&&◌, List, set, replicate, Option, nat_lt, slice_index_or, slice_set}
+use Rattle.std.specs.Prelude.{ℕ, ◌-◌, Bool, true, false, ◌&&◌, List, replicate, Option, nat_lt, slice_index_or, slice_set}
 use Rattle.folds.specs.Firsts.{first_up}
 
 -- a set says of each of the 64 flows whether it is a member; no other number is one

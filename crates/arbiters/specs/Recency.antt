@@ -1,4 +1,4 @@
-use Rattle.std.specs.Prelude.{ℕ, Bool, cond, ◌&&◌, List, set, replicate, None, Option, nat_lt, slice_index_or, slice_set}
+use Rattle.std.specs.Prelude.{ℕ, Bool, cond, ◌&&◌, List, replicate, None, Option, nat_lt, slice_index_or, slice_set}
 use Rattle.folds.specs.Firsts.{first_of}
 use Rattle.folds.specs.Orders.{rising, moved_to_end}
 use Rattle.folds.proofs.Orders.{moved_once, rising_once}

@@ -1,4 +1,4 @@
-use Rattle.std.specs.Prelude.{ℕ, ◌+◌, Bool, cond, ◌&&◌, List, set, replicate, Some, None, Option, nat_lt, slice_index, slice_set}
+use Rattle.std.specs.Prelude.{ℕ, ◌+◌, Bool, cond, ◌&&◌, List, replicate, Some, None, Option, nat_lt, slice_index, slice_set}
 use Rattle.arbiters.specs.FlowSets.{first_between}
 use Rattle.arbiters.specs.declared.round_robin.RoundRobin.{RoundRobin}
 

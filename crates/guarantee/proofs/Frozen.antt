@@ -1,5 +1,5 @@
 -- The figures of a plan.
-use Rattle.std.proofs.Common.{◌≡◌, ℕ, zero, suc, ◌+◌, ◌-◌, ◌*◌, ◌<◌, ◌≤◌, true, cond, ◌&&◌, ltb, List, [], ◌∷◌, map, length, get_or, take, Some, None, Option, sym, refl, ap, ◌∙◌, subst, arith}
+use Rattle.std.proofs.Common.{◌≡◌, ℕ, zero, suc, ◌+◌, ◌-◌, ◌*◌, ◌<◌, ◌≤◌, true, cond, ◌&&◌, List, [], ◌∷◌, map, length, get_or, take, Some, None, sym, ap, ◌∙◌, subst, arith}
 use Rattle.std.proofs.lemmas.Nat.{mul-le}
 use Rattle.std.proofs.lemmas.List.{length-map, length-take, get_or-map}
 use Rattle.std.proofs.lemmas.Bool.{and_parts, lt-ltb, le-ltb}
@@ -10,7 +10,7 @@ use Rattle.plan.specs.declared.rows.Row.{Row}
 use Rattle.plan.specs.declared.setting.Settings.{Settings}
 use Rattle.plan.specs.declared.sheets.Sheet.{Sheet}
 use Rattle.plan.specs.declared.table.Plan.{Plan}
-use Rattle.plan.proofs.Figures.{Ranged, ranged_at, crossings_few}
+use Rattle.plan.proofs.Figures.{ranged_at, crossings_few}
 use Rattle.plan.proofs.Ranges.{frame_range, window_range, within_parts}
 use Rattle.plan.proofs.Tables.{flows_counted}
 use Rattle.routes.specs.Channels.{within}

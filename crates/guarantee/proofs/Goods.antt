@@ -1,12 +1,12 @@
 -- What holds of a table made by calls on a plan, and of every network that runs on it.
-use Rattle.std.proofs.Common.{◌≡◌, ℕ, ◌+◌, ◌-◌, ◌*◌, ◌<◌, ◌≤◌, Bool, true, false, cond, List, [], ◌∷◌, length, get_or, take, Some, None, sum, Option}
+use Rattle.std.proofs.Common.{◌≡◌, ℕ, ◌+◌, ◌-◌, ◌*◌, ◌<◌, ◌≤◌, true, List, [], ◌∷◌, length, get_or, Some, None, sum, Option}
 use Rattle.accounts.specs.Accounts.{fresh}
 use Rattle.accounts.proofs.Steps.{Kept}
 use Rattle.folds.specs.Sums.{total}
 use Rattle.lanes.specs.declared.flits.Flit.{Flit}
 use Rattle.plan.specs.Settings.{settings_fit}
 use Rattle.plan.specs.Tables.{Flow, Table, load}
-use Rattle.routes.specs.Channels.{within, well_formed}
+use Rattle.routes.specs.Channels.{well_formed}
 use Rattle.routes.specs.Crossings.{hop}
 use Rattle.running.specs.Nets.{Net, flows, line, route}
 use Rattle.running.specs.Sounds.{Sound}

@@ -1,5 +1,5 @@
 -- The whole promise, put together.
-use Rattle.std.proofs.Common.{◌≡◌, ℕ, ◌+◌, ◌-◌, ◌*◌, ◌<◌, ◌≤◌, true, List, ◌++◌, sym, refl, ap, ◌∙◌, subst, one-mul, arith}
+use Rattle.std.proofs.Common.{◌≡◌, ℕ, ◌+◌, ◌-◌, ◌*◌, ◌<◌, ◌≤◌, true, List, ◌++◌, sym, refl, subst, one-mul, arith}
 use Rattle.arbiters.specs.declared.arbiter.Arbiter as arbiter
 use Rattle.clocks.specs.declared.clock.WindowClock as clock
 use Rattle.plan.specs.Tables.{Table}

@@ -5,7 +5,6 @@ use Rattle.std.proofs.lemmas.Bool.{and_parts, eq-eqb, eqb-true, ltb-true}
 use Rattle.accounts.specs.Ledgers.{Ledger, Limits}
 use Rattle.accounts.specs.Offers.{ready, bad_size, paid}
 use Rattle.accounts.proofs.Ready.{ready_is}
-use Rattle.folds.specs.Sums.{total}
 use Rattle.folds.proofs.Sums.{total_le, total_none, sumBy_total}
 use Rattle.lanes.specs.declared.flits.Flit.{Flit}
 use Rattle.plan.specs.Tables.{Table}

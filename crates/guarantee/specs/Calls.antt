@@ -10,7 +10,6 @@ use Rattle.running.specs.Cycles.{Run, started_run, offered_run, run_over, shifts
 use Rattle.running.specs.Offers.{offer_answer}
 use Rattle.running.specs.Runs.{cycles_made, run_leaves}
 use Rattle.running.specs.declared.refusal.RunRefusal.{RunRefusal}
-use Rattle.running.specs.declared.refusal.RunRefusal.TheVariants.{RunOver}
 
 -- a call on a plan: it is set, or a flow of so many slots, a largest packet and a route is reserved
 pub data PlanCall : Type 0 where

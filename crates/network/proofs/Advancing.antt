@@ -1,5 +1,5 @@
 -- A fabric after one granted flit has crossed its channel.
-use Rattle.std.proofs.Common.{◌≡◌, ℕ, ◌+◌, ◌-◌, ◌<◌, ◌≤◌, Bool, true, false, cond, not, ◌&&◌, ◌||◌, eqb, ltb, List, [], ◌∷◌, ◌++◌, length, get_or, set, is_some, Some, None, Option, sym, refl, ap, ◌∙◌, subst, arith}
+use Rattle.std.proofs.Common.{◌≡◌, ℕ, ◌-◌, ◌<◌, ◌≤◌, true, false, ◌&&◌, ◌||◌, ltb, length, get_or, set, is_some, Some, None, Option, sym, refl, ap, ◌∙◌, subst, arith}
 use Rattle.std.proofs.lemmas.List.{length-set}
 use Rattle.std.proofs.lemmas.Bool.{and_from, and_parts, lt-ltb, ltb-true, ne_eqb}
 use Rattle.lanes.specs.declared.flits.Flit.{Flit}
@@ -7,17 +7,16 @@ use Rattle.routes.specs.Channels.{well_formed}
 use Rattle.routes.specs.Crossings.{crossing}
 use Rattle.routes.specs.declared.crossing.Crossing.{Crossing}
 use Rattle.routes.proofs.Crossings.{crossing_known, before_next}
-use Rattle.sources.specs.Lines.{Line, left_by}
 use Rattle.running.specs.Crossed.{crossed, crossed_by, crossed_line}
 use Rattle.running.specs.Moves.{ready_flit}
-use Rattle.running.specs.Nets.{Net, flows, line, route, no_line}
+use Rattle.running.specs.Nets.{Net, flows, line, route}
 use Rattle.running.specs.Requests.{requests, requests_by, stands, has_space}
 use Rattle.running.specs.Sounds.{Sound}
 use Rattle.running.specs.declared.grant.Grant.{Grant}
 use Rattle.running.proofs.Carrying.{crossed_sound_last, crossed_sound_on, crossed_held, crossed_delivers, line_carried}
 use Rattle.running.proofs.Keeping.{kept_field}
 use Rattle.network.specs.Fabrics.{net_of, Sized, Marked, Kept}
-use Rattle.network.specs.Landings.{departing, departed, takes_flit, landed, ends}
+use Rattle.network.specs.Landings.{departing, departed, takes_flit, landed}
 use Rattle.network.specs.declared.fabric.Fabric.{Fabric}
 use Rattle.network.proofs.Landing.{departs_ready, landed_is, with_off}
 use Rattle.network.proofs.Rows.{flow_count}

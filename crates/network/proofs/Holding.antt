@@ -1,13 +1,11 @@
 -- What a fabric holds, and what its flows have counted.
-use Rattle.std.proofs.Common.{◌≡◌, ℕ, ◌+◌, ◌<◌, ◌≤◌, cond, List, [], ◌∷◌, length, get_or, Some, None, sum, Option, sym, refl, ap, ◌∙◌, arith}
-use Rattle.std.proofs.lemmas.List.Sums.{sum_by-cons}
+use Rattle.std.proofs.Common.{◌≡◌, ℕ, ◌+◌, ◌<◌, ◌≤◌, cond, List, [], ◌∷◌, length, get_or, Some, None, sum, sym, ap, ◌∙◌, arith}
 use Rattle.std.proofs.lemmas.Bool.{lt-ltb, le-ltb}
 use Rattle.sources.specs.Sources.{line_of}
 use Rattle.sources.specs.declared.feed.Source.{Source}
 use Rattle.running.specs.Nets.{flows, line}
 use Rattle.network.specs.Fabrics.{net_of, Sized}
 use Rattle.network.specs.Reading.{line_counts, counts_of}
-use Rattle.network.specs.declared.counts.Counts.{Counts}
 use Rattle.network.specs.declared.fabric.Fabric.{Fabric}
 use Rattle.network.proofs.Rows.{flow_count, line_at}
 

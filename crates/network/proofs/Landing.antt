@@ -1,20 +1,19 @@
 -- A flit that departs and lands has crossed its channel.
-use Rattle.std.proofs.Common.{◌≡◌, ℕ, ◌+◌, ◌<◌, ◌≤◌, Bool, true, false, cond, not, ◌&&◌, ◌||◌, eqb, ltb, ◌⊎◌, List, [], ◌∷◌, ◌++◌, length, get_or, set, is_some, Some, None, Option, sym, refl, ap, ◌∙◌, subst, inl, inr, append-nil, arith}
+use Rattle.std.proofs.Common.{◌≡◌, ℕ, ◌<◌, Bool, true, false, cond, not, ◌&&◌, eqb, List, [], ◌∷◌, ◌++◌, get_or, set, is_some, Some, None, Option, sym, refl, ap, ◌∙◌, append-nil}
 use mathlib.Core.Path.{fun_ext}
 use Rattle.std.proofs.lemmas.List.{get_or-set_same, set-set, set-get_or}
-use Rattle.std.proofs.lemmas.Bool.{cases_eq, eq-eqb, ne_eqb, eqb-true, true≢false, lt-ltb, ltb-true, or_cases, and_from}
+use Rattle.std.proofs.lemmas.Bool.{eq-eqb, ne_eqb, eqb-true, true≢false}
 use Rattle.lanes.specs.Lanes.{first_of, rest_of}
 use Rattle.lanes.specs.declared.flits.Flit.{Flit}
 use Rattle.routes.specs.Crossings.{crossing}
 use Rattle.routes.specs.declared.crossing.Crossing.{Crossing}
-use Rattle.sources.specs.Lines.{Line, first_place, left_by, leave_answer, number_at, delivering, deliver_answer, arrived}
-use Rattle.running.specs.Crossed.{crossed, crossed_by, crossed_lane, crossed_line, without_front, with_flit}
-use Rattle.running.specs.Moves.{ready_flit, left_if, arrived_if, no_flit}
+use Rattle.sources.specs.Lines.{Line, first_place, left_by, number_at, delivering, deliver_answer, arrived}
+use Rattle.running.specs.Crossed.{crossed, crossed_by, crossed_lane, without_front, with_flit}
+use Rattle.running.specs.Moves.{ready_flit, left_if, no_flit}
 use Rattle.running.specs.Nets.{Net, flows, line, route, no_line}
-use Rattle.running.specs.Offers.{with_line, with_lines}
-use Rattle.running.specs.Requests.{is_at, leads, stands, has_space}
+use Rattle.running.specs.Requests.{is_at, leads, stands}
 use Rattle.running.specs.declared.grant.Grant.{Grant}
-use Rattle.network.specs.Landings.{with_lanes, numbered, departing, departed, takes_flit, landed}
+use Rattle.network.specs.Landings.{numbered, departing, departed, takes_flit, landed}
 use Rattle.lanes.specs.Rings.{with_lane}
 
 abbrev Lanes : Type 0

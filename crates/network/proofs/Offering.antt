@@ -1,6 +1,5 @@
 -- A fabric after an offer to one of its flows.
-use Rattle.std.proofs.Common.{◌≡◌, ℕ, zero, suc, ◌+◌, ◌-◌, ◌*◌, ◌<◌, ◌≤◌, Bool, true, false, cond, ltb, List, [], ◌∷◌, map, length, get_or, take, set, is_some, Ok, Err, sum_by, Result, sym, refl, ap, ◌∙◌, subst, suc-mul, arith}
-use Rattle.std.proofs.lemmas.List.{length-map, length-take}
+use Rattle.std.proofs.Common.{◌≡◌, ℕ, zero, suc, ◌+◌, ◌-◌, ◌*◌, ◌<◌, ◌≤◌, Bool, true, false, cond, ltb, List, [], ◌∷◌, map, length, get_or, take, set, is_some, Ok, Err, Result, sym, refl, ap, ◌∙◌, subst, suc-mul, arith}
 use Rattle.std.proofs.ByRecursion.{sum_by_le}
 use Rattle.std.proofs.lemmas.Bool.{lt-ltb, le-ltb}
 use Rattle.std.specs.List.{AllByRecursion as All}
@@ -13,11 +12,9 @@ use Rattle.sources.specs.declared.feed.Source.{Source}
 use Rattle.sources.specs.declared.refusal.OfferRefusal.{OfferRefusal}
 use Rattle.sources.specs.declared.refusal.OfferRefusal.TheVariants.{PacketSize, WindowSpent}
 use Rattle.sources.proofs.Reach.{few_waiting}
-use Rattle.running.specs.Nets.{Net, flows, line, route, no_line}
+use Rattle.running.specs.Nets.{Net, flows, line, route}
 use Rattle.running.specs.Offers.{offer_answer, offer_leaves, from_source, with_line}
-use Rattle.running.specs.Refusals.{as_run}
-use Rattle.running.specs.Sounds.{Sound, waiting_in, buffered_in}
-use Rattle.running.specs.declared.refusal.RunRefusal.{RunRefusal}
+use Rattle.running.specs.Sounds.{Sound}
 use Rattle.running.specs.declared.refusal.RunRefusal.TheVariants.{NoSuchFlow}
 use Rattle.running.proofs.Joining.{offered_sound, held_more, packet_place}
 use Rattle.running.proofs.Keeping.{kept_field}

@@ -1,15 +1,14 @@
 -- The flows of a fabric, read off its table of sources.
-use Rattle.std.proofs.Common.{◌≡◌, ℕ, zero, suc, ◌+◌, ◌-◌, ◌<◌, ◌≤◌, Bool, true, false, List, [], ◌∷◌, map, length, get_or, take, set, is_some, sym, refl, ap, ◌∙◌, subst, arith}
+use Rattle.std.proofs.Common.{◌≡◌, ℕ, zero, suc, ◌+◌, ◌-◌, ◌<◌, ◌≤◌, true, false, List, [], ◌∷◌, map, get_or, take, set, is_some, sym, refl, ap, ◌∙◌, arith}
 use Rattle.std.proofs.lemmas.List.{length-map, length-take, get_or-map, get_or-take, map-set}
-use Rattle.folds.specs.Filled.{list_up, filled}
+use Rattle.folds.specs.Filled.{filled}
 use Rattle.folds.specs.Firsts.{first_up}
-use Rattle.folds.proofs.Anys.{any_hit, any_miss, any_end}
 use Rattle.folds.proofs.Filled.{filled_more, filled_skip, filled_rest}
 use Rattle.routes.specs.Crossings.{crossing}
 use Rattle.sources.specs.Lines.{Line, first_place}
 use Rattle.sources.specs.Sources.{line_of}
 use Rattle.sources.specs.declared.feed.Source.{Source}
-use Rattle.running.specs.Nets.{Net, flows, line, route, no_line}
+use Rattle.running.specs.Nets.{flows, line, route, no_line}
 use Rattle.running.specs.Offers.{with_lines, with_line}
 use Rattle.running.specs.Requests.{requests, asked, requesters}
 use Rattle.running.proofs.Asking.{no_flow_requests}

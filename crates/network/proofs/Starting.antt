@@ -1,17 +1,15 @@
 -- A fabric that starts from a plan.
-use Rattle.std.proofs.Common.{◌≡◌, ℕ, zero, suc, ◌+◌, ◌-◌, ◌<◌, ◌≤◌, Bool, true, false, cond, ◌&&◌, eqb, ltb, ◌⊎◌, List, [], ◌∷◌, ◌++◌, map, length, get_or, take, set, replicate, is_some, Some, None, Ok, Err, Option, Result, sym, refl, ap, ◌∙◌, subst, inl, inr, arith}
-use Rattle.std.proofs.lemmas.List.{take_more, take_more_set, take_all, map-append, map_more, length-map, length-replicate, length-set, get_or-map}
+use Rattle.std.proofs.Common.{◌≡◌, ℕ, zero, suc, ◌+◌, ◌<◌, ◌≤◌, Bool, true, false, cond, ◌&&◌, eqb, ltb, ◌⊎◌, List, [], ◌∷◌, ◌++◌, map, length, get_or, take, set, replicate, is_some, Some, None, Ok, Err, Option, Result, sym, refl, ap, ◌∙◌, subst, inl, inr, arith}
+use Rattle.std.proofs.lemmas.List.{take_more_set, take_all, map-append, map_more, length-map, length-replicate, length-set, get_or-map}
 use Rattle.std.proofs.lemmas.List.Sums.{get_or-le-sum_by}
 use Rattle.std.proofs.lemmas.Bool.{or_left, or_right, eq-eqb, both_ways, and_parts, cases_lt}
 use Rattle.accounts.specs.Accounts.{fresh, opened, outside}
-use Rattle.accounts.specs.Ledgers.{Ledger}
 use Rattle.accounts.specs.declared.refusal.AccountRefusal.{AccountRefusal}
 use Rattle.accounts.specs.declared.refusal.AccountRefusal.TheVariants.{WindowRange, SlotsRange, LargestRange}
 use Rattle.folds.specs.Filled.{filled, list_up}
-use Rattle.folds.proofs.Filled.{filled_more, filled_all, length_up}
+use Rattle.folds.proofs.Filled.{filled_all, length_up}
 use Rattle.folds.proofs.Ups.{getD_up}
 use Rattle.plan.specs.Plans.{table_of}
-use Rattle.plan.specs.Settings.{settings_fit}
 use Rattle.lanes.specs.Rings.{lane_of, frames_of, empty_lanes, clamped}
 use Rattle.lanes.specs.declared.buffers.Buffers.{Buffers}
 use Rattle.lanes.specs.declared.flits.Flit.{Flit}
@@ -24,11 +22,11 @@ use Rattle.routes.specs.Routes.{channels_of}
 use Rattle.std.proofs.lemmas.Bool.Decides.{nat_tests}
 use Rattle.plan.specs.declared.rows.Row.{Row}
 use Rattle.plan.specs.declared.table.Plan.{Plan}
-use Rattle.plan.proofs.Figures.{Ranged, ranged_at}
+use Rattle.plan.proofs.Figures.{ranged_at}
 use Rattle.plan.proofs.Ranges.{frame_range, window_range, within_parts}
 use Rattle.plan.proofs.Tables.{flows_counted}
-use Rattle.sources.specs.Lines.{Line, fresh_line, opened_line}
-use Rattle.sources.specs.Sources.{line_of, lined}
+use Rattle.sources.specs.Lines.{Line, opened_line}
+use Rattle.sources.specs.Sources.{line_of}
 use Rattle.sources.specs.declared.feed.Source.{Source}
 use Rattle.running.specs.Cycles.{opened_flow, started}
 use Rattle.running.specs.Nets.{Net, route, no_line}

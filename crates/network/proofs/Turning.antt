@@ -1,9 +1,8 @@
 -- The flows of a fabric while their windows shift, one after the other.
-use Rattle.std.proofs.Common.{◌≡◌, ℕ, zero, suc, ◌+◌, ◌-◌, ◌<◌, ◌≤◌, Bool, true, false, cond, ◌&&◌, eqb, ltb, List, [], ◌∷◌, ◌++◌, map, length, get_or, take, drop, set, sym, refl, ap, ◌∙◌, subst, append_assoc, append-nil, arith}
+use Rattle.std.proofs.Common.{◌≡◌, ℕ, zero, suc, ◌+◌, ◌<◌, ◌≤◌, Bool, true, false, cond, eqb, ltb, List, [], ◌∷◌, ◌++◌, map, length, get_or, take, drop, set, sym, refl, ap, ◌∙◌, subst, append_assoc, append-nil, arith}
 use mathlib.Core.Path.{fun_ext}
-use Rattle.std.proofs.lemmas.List.{set_at, drop_more, drop_all, take_all, map_more, length-map, length-take, length-append, length-drop, get_or_at, get_or_past, take-append-drop, nil_from_length}
+use Rattle.std.proofs.lemmas.List.{set_at, drop_more, drop_all, take_all, map_more, length-map, length-take, length-append, get_or_at, take-append-drop, nil_from_length}
 use Rattle.std.proofs.lemmas.Bool.{and_from, and_right, eq-eqb, eqb-true, lt-ltb}
-use Rattle.accounts.specs.Shifts.{in_run}
 use Rattle.lanes.specs.Rings.{lane_of, frames_of, turned}
 use Rattle.lanes.specs.declared.buffers.Buffers.{Buffers}
 use Rattle.lanes.specs.declared.flits.Flit.{Flit}

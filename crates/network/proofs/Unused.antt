@@ -1,5 +1,5 @@
 -- A channel that is not marked as used grants nothing.
-use Rattle.std.proofs.Common.{◌≡◌, ℕ, ◌<◌, Bool, false, get_or, None, sym}
+use Rattle.std.proofs.Common.{◌≡◌, ℕ, ◌<◌, false, get_or, None, sym}
 use Rattle.arbiters.specs.declared.arbiter.Arbiter as arbiter
 use Rattle.running.specs.Grants.{grant_at}
 use Rattle.running.proofs.Granting.{none_granted}

@@ -1,12 +1,11 @@
 -- The turns of the channels: one granted flit after the other moves, and together they have moved.
-use Rattle.std.proofs.Common.{◌≡◌, ℕ, suc, ◌+◌, ◌<◌, ◌≤◌, Bool, true, false, cond, List, [], ◌∷◌, ◌++◌, length, get_or, take, Some, None, Option, sym, refl, ap, ◌∙◌, subst, append-nil, add-one, arith}
+use Rattle.std.proofs.Common.{◌≡◌, ℕ, ◌+◌, ◌<◌, ◌≤◌, Bool, true, false, cond, List, [], ◌∷◌, ◌++◌, length, get_or, take, Some, None, Option, sym, refl, ap, ◌∙◌, subst, add-one, arith}
 use Rattle.std.proofs.lemmas.List.{length-append}
 use Rattle.lanes.specs.declared.flits.Flit.{Flit}
 use Rattle.routes.specs.Crossings.{crossing}
 use Rattle.routes.specs.declared.crossing.Crossing.{Crossing}
-use Rattle.running.specs.Crossed.{crossed}
 use Rattle.running.specs.Moves.{at_channel, ready_flit, moved, arrive, arrives_by, arrivals}
-use Rattle.running.specs.Nets.{Net, flows, route}
+use Rattle.running.specs.Nets.{Net, route}
 use Rattle.running.specs.Valid.{Valid, Routed, InWindow}
 use Rattle.running.specs.declared.grant.Grant.{Grant}
 use Rattle.running.proofs.Same.{moved_none, moved_skip, moved_all}

@@ -1,9 +1,9 @@
 -- The network that a fabric stands for, and what a fabric keeps.
-use Rattle.std.specs.Prelude.{◌≡◌, ℕ, ◌<◌, ◌≤◌, Bool, true, false, List, map, length, take, is_some, slice_index_or}
+use Rattle.std.specs.Prelude.{◌≡◌, ℕ, ◌<◌, ◌≤◌, false, map, length, take, is_some, slice_index_or}
 use Rattle.lanes.specs.Rings.{lane_of, frames_of}
 use Rattle.routes.specs.Crossings.{crossing}
 use Rattle.sources.specs.Sources.{line_of}
-use Rattle.running.specs.Nets.{Net, route, flows}
+use Rattle.running.specs.Nets.{Net, route}
 use Rattle.running.specs.Sounds.{Sound}
 use Rattle.network.specs.declared.fabric.Fabric.{Fabric}
 

@@ -1,5 +1,5 @@
 -- Where the next packet of a flow goes.
-use Rattle.std.specs.Prelude.{ℕ, ◌+◌, ◌<◌}
+use Rattle.std.specs.Prelude.{◌+◌, ◌<◌}
 use Rattle.accounts.specs.Offers.{ready}
 use Rattle.sources.specs.Lines.{Line}
 

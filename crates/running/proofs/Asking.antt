@@ -1,8 +1,8 @@
 -- Where no flow is, nothing is requested.
-use Rattle.std.proofs.Common.{◌≡◌, ℕ, ◌≤◌, Bool, false, [], None, refl, ap, ◌∙◌}
+use Rattle.std.proofs.Common.{◌≡◌, ℕ, ◌≤◌, false, [], None, refl, ap, ◌∙◌}
 use Rattle.std.proofs.lemmas.List.{get_or_past}
 use Rattle.folds.specs.Firsts.{first_up}
-use Rattle.routes.specs.Crossings.{crossing, crossing_at}
+use Rattle.routes.specs.Crossings.{crossing}
 use Rattle.sources.specs.Lines.{Line}
 use Rattle.running.specs.Nets.{Net, flows, line, route, no_line}
 use Rattle.running.specs.Requests.{requests, requests_by}

@@ -1,10 +1,9 @@
 -- The turns of a bounded run.
-use Rattle.std.proofs.Common.{◌≡◌, ℕ, zero, suc, ◌+◌, ◌-◌, ◌<◌, ◌≤◌, Bool, true, false, cond, not, ◌||◌, eqb, sym, refl, ap, ◌∙◌, add-one, arith}
+use Rattle.std.proofs.Common.{◌≡◌, ℕ, zero, suc, ◌+◌, ◌-◌, ◌<◌, ◌≤◌, Bool, true, false, cond, ◌||◌, eqb, sym, refl, ap, ◌∙◌, add-one, arith}
 use Rattle.std.proofs.lemmas.Bool.{eq-eqb, ne_eqb, eqb-true, eqb-false, or_left, or_parts}
 use Rattle.arbiters.specs.declared.arbiter.Arbiter as arbiter
 use Rattle.clocks.specs.declared.clock.WindowClock as clock
 use Rattle.running.specs.Cycles.{Run, cycled, run_over}
-use Rattle.running.specs.Nets.{Net}
 use Rattle.running.specs.Runs.{nothing_held, after_cycles, cycles_made, run_leaves, run_ending, run_answer, Ended, Ran}
 use Rattle.running.specs.declared.ending.Ending.{Ending}
 use Rattle.running.specs.declared.ending.Ending.TheVariants.{Empty, Spent, Over}

@@ -1,9 +1,8 @@
 -- The turns of the channels: what each grants, and what the arbiter holds then.
-use Rattle.std.proofs.Common.{◌≡◌, ℕ, zero, suc, ◌+◌, ◌<◌, ◌≤◌, Bool, true, false, List, set, replicate, is_some, Some, None, Option, sym, refl, ap, ◌∙◌, subst, add-one, arith}
+use Rattle.std.proofs.Common.{◌≡◌, ℕ, ◌+◌, ◌<◌, ◌≤◌, false, List, set, replicate, is_some, Some, None, Option, sym, refl, ap, ◌∙◌, add-one, arith}
 use Rattle.std.proofs.lemmas.Bool.{true≢false}
 use Rattle.arbiters.specs.declared.arbiter.Arbiter as arbiter
-use Rattle.folds.specs.Filled.{list_up, filled}
-use Rattle.folds.specs.Firsts.{first_up}
+use Rattle.folds.specs.Filled.{filled}
 use Rattle.folds.proofs.Filled.{filled_none, filled_more, filled_skip, filled_all}
 use Rattle.folds.proofs.Firsts.{first_none}
 use Rattle.routes.specs.Crossings.{crossing}

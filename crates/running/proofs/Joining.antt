@@ -6,7 +6,7 @@ use Rattle.std.proofs.lemmas.Bool.{cases_eq, lt-ltb}
 use Rattle.accounts.specs.Offers.{ready, bad_size, paid}
 use Rattle.routes.specs.Channels.{well_formed}
 use Rattle.sources.specs.Lines.{Line, joined, turned_away, offered}
-use Rattle.running.specs.Nets.{Net, no_line, line, route, flows}
+use Rattle.running.specs.Nets.{Net, no_line, line, flows}
 use Rattle.running.specs.Offers.{with_lines, offer_leaves}
 use Rattle.running.specs.Sounds.{waiting_in, buffered_in, under_way, Tallied, Sound}
 use Rattle.running.proofs.Keeping.{kept_field, all_alike}

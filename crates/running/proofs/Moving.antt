@@ -1,5 +1,5 @@
 -- All granted flits that move together leave the network sound.
-use Rattle.std.proofs.Common.{◌≡◌, ℕ, zero, suc, ◌+◌, ◌<◌, List, length, take, Some, None, Option, sym, refl, subst, add-one, arith}
+use Rattle.std.proofs.Common.{◌≡◌, ℕ, zero, suc, ◌+◌, List, length, take, Some, None, Option, sym, refl, subst, add-one, arith}
 use Rattle.running.specs.Crossed.{crossed}
 use Rattle.running.specs.Moves.{at_channel, moved}
 use Rattle.running.specs.Nets.{Net}

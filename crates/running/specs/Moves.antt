@@ -1,5 +1,5 @@
 -- All granted flits move together: on to the channel's buffer, or to delivery.
-use Rattle.std.specs.Prelude.{ℕ, zero, suc, Bool, true, false, cond, not, ◌&&◌, List, [], ◌∷◌, ◌++◌, length, Some, None, Option, ◌==◌, slice_index_or}
+use Rattle.std.specs.Prelude.{ℕ, zero, suc, Bool, false, cond, not, ◌&&◌, List, [], ◌∷◌, ◌++◌, Some, None, Option, ◌==◌, slice_index_or}
 use Rattle.folds.specs.Filled.{list_up}
 use Rattle.lanes.specs.declared.flits.Flit.{Flit}
 use Rattle.routes.specs.Crossings.{crossing, next_channel, first_channel, last_channel}

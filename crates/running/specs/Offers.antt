@@ -1,5 +1,5 @@
 -- An offer to a running network: it changes one flow's line.
-use Rattle.std.specs.Prelude.{ℕ, Bool, cond, List, Ok, Err, Result, nat_lt, slice_set}
+use Rattle.std.specs.Prelude.{ℕ, cond, List, Ok, Err, Result, nat_lt, slice_set}
 use Rattle.sources.specs.Lines as source
 use Rattle.sources.specs.declared.refusal.OfferRefusal.{OfferRefusal}
 use Rattle.running.specs.Nets.{Net, line, flows}

@@ -1,6 +1,6 @@
 -- What a flit that leaves and a shift of the window leave at a source.
-use Rattle.std.proofs.Common.{◌≡◌, ℕ, zero, suc, ◌+◌, ◌-◌, ◌*◌, ◌<◌, ◌≤◌, Bool, true, false, cond, eqb, ◌≢◌, ◌⊎◌, List, [], ◌∷◌, ◌++◌, length, get_or, drop, set, ℤ, pos, ◌+ℤ◌, ◌≤ℤ◌, is_err, Ok, Err, sum, Result, sym, refl, ap, ◌∙◌, subst, inl, inr, add-mul, one-mul, arith}
-use Rattle.std.proofs.lemmas.List.{get_or-set_other, get_or-drop, get_or_append_left, get_or-append_right, get_or_past, length-drop, length-append}
+use Rattle.std.proofs.Common.{◌≡◌, ℕ, zero, suc, ◌+◌, ◌-◌, ◌*◌, ◌<◌, ◌≤◌, Bool, true, false, cond, eqb, ◌≢◌, ◌⊎◌, List, [], ◌∷◌, ◌++◌, length, get_or, drop, set, pos, ◌+ℤ◌, ◌≤ℤ◌, is_err, Ok, Err, sum, Result, sym, refl, ap, ◌∙◌, subst, inl, inr, add-mul, one-mul, arith}
+use Rattle.std.proofs.lemmas.List.{get_or-set_other, get_or-drop, get_or_append_left, get_or-append_right, length-drop}
 use Rattle.std.proofs.lemmas.Int.{ints}
 use Rattle.std.proofs.lemmas.List.Sums.{sum_by-set, sum_by_push, sum_by-drop_more}
 use Rattle.std.proofs.lemmas.Bool.{cases_eq, cases_lt, true≢false}

@@ -1,4 +1,4 @@
-use Rattle.std.proofs.Common.{sym, refl, ap, ◌∙◌}
+use Rattle.std.proofs.Common.{ap}
 use Rattle.network.specs.Landings.{ends}
 use Rattle.network.proofs.Advancing.{after, marked, some_left, last_kept, on_kept, low_after, departs_some}
 use Rattle.network.proofs.fabric.Fabric.advance.Goals as goal

@@ -1,7 +1,7 @@
-use Rattle.std.proofs.Common.{sym, refl, ap, ◌∙◌}
+use Rattle.std.proofs.Common.{refl, ◌∙◌}
 use Rattle.std.proofs.lemmas.List.{length-set}
-use Rattle.sources.specs.Lines.{leave_answer, left_by, delivering}
-use Rattle.network.proofs.Rows.{row_changed, line_at}
+use Rattle.sources.specs.Lines.{delivering}
+use Rattle.network.proofs.Rows.{row_changed}
 use Rattle.network.proofs.fabric.Fabric.deliver.Goals as goal
 
 pub returns : goal.returns

@@ -1,6 +1,6 @@
 use Rattle.std.proofs.Common.{sym, refl, ap, ◌∙◌}
 use Rattle.std.proofs.lemmas.List.{length-set}
-use Rattle.sources.specs.Lines.{leave_answer, left_by, delivering}
+use Rattle.sources.specs.Lines.{leave_answer, left_by}
 use Rattle.network.proofs.Rows.{row_changed, line_at}
 use Rattle.network.proofs.fabric.Fabric.leave.Goals as goal
 

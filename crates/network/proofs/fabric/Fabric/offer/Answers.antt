@@ -1,4 +1,4 @@
-use Rattle.std.proofs.Common.{◌≡◌, ◌-◌, ◌<◌, Ok, Err, sym, ap, ◌∙◌, arith, rules}
+use Rattle.std.proofs.Common.{◌-◌, ◌<◌, Ok, Err, ◌∙◌, arith, rules}
 use Rattle.network.proofs.Offering.{no_such, leaves, answers, marked, refused_sound, past_head, near, few_after, accepted_sound}
 use Rattle.network.proofs.fabric.Fabric.offer.Goals as goal
 

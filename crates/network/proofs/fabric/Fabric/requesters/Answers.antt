@@ -1,5 +1,5 @@
 use Rattle.std.proofs.Common.{rules}
-use Rattle.folds.proofs.Filled.{filled_none, filled_more}
+use Rattle.folds.proofs.Filled.{filled_none}
 use Rattle.network.proofs.Rows.{requesters_all, requester_in, requester_out}
 use Rattle.network.proofs.fabric.Fabric.requesters.Goals as goal
 

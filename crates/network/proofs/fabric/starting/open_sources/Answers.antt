@@ -1,4 +1,4 @@
-use Rattle.std.proofs.Common.{◌≡◌, map, sym, refl, ap, ◌∙◌, subst, arith}
+use Rattle.std.proofs.Common.{map, sym, refl, ap, ◌∙◌, subst, arith}
 use Rattle.plan.specs.Plans.{table_of}
 use Rattle.plan.specs.declared.setting.Settings.{Settings}
 use Rattle.running.specs.Cycles.{opened_flow}

@@ -1,4 +1,4 @@
-use Rattle.std.proofs.Common.{sym, ◌∙◌, arith, rules}
+use Rattle.std.proofs.Common.{arith, rules}
 use Rattle.std.proofs.lemmas.Bool.{lt-ltb, le-ltb}
 use Rattle.folds.proofs.Firsts.{first_hit, first_miss, first_end}
 use Rattle.sources.proofs.feed.Source.first_place.Goals as goal

@@ -1,4 +1,4 @@
-use Rattle.std.proofs.Common.{arith, rules}
+use Rattle.std.proofs.Common.{rules}
 use Rattle.std.proofs.lemmas.List.{length-set}
 use Rattle.sources.proofs.Leaving.{counted_left, ordered_left}
 use Rattle.sources.proofs.feed.Source.leave.Goals as goal

@@ -1,9 +1,7 @@
-use Rattle.std.proofs.Common.{◌≡◌, ℕ, ◌+◌, ◌<◌, true, cond, ◌&&◌, eqb, List, get_or, sum, sym, refl, ap, ◌∙◌, subst, arith}
+use Rattle.std.proofs.Common.{◌≡◌, ℕ, ◌+◌, ◌<◌, true, cond, ◌&&◌, eqb, get_or, sum, sym, refl, ap, ◌∙◌, subst, arith}
 use Rattle.std.proofs.lemmas.Bool.{eq-eqb, and_from}
 use Rattle.accounts.specs.Accounts.{ledger}
 use Rattle.accounts.specs.Shifts.{in_run, shifted}
-use Rattle.sources.specs.Lines.{Line}
-use Rattle.sources.specs.Sources.{line_of}
 use Rattle.sources.proofs.Leaving.{moved_up, counted_shift, ordered_shift, owed_shift, run_goes_on}
 use Rattle.sources.proofs.feed.Source.shift.Goals as goal
 
