@@ -1,6 +1,6 @@
 ghost use Rattle.std.specs.Prelude.{◌≤◌};
 
-pub mod routes;
+pub mod routing;
 
 /// A mesh of as many columns as rows, 1 to 8 of each.
 #[derive(Clone, Copy, Debug, PartialEq, Eq)]
