@@ -58,10 +58,7 @@ impl<C: WindowClock> WindowClock for Sampled<C> {
 
     ghost busy = { Prim.search rules };
 
-    ghost falls = { λ c h.
-        let k = C.WindowClock in
-        let laws = C.WindowClock in
-        sampled_falls k.left (k.told c.below true) c.below c.period c.since (sampled_due c) (k.shifts c.below true) refl c.ok.1 (laws.positive c.below) (laws.falls c.below) h };
+    ghost falls = { λ c h. sampled_falls C.WindowClock.left (C.WindowClock.told c.below true) c.below c.period c.since (sampled_due c) (C.WindowClock.shifts c.below true) refl c.ok.1 (C.WindowClock.positive c.below) (C.WindowClock.falls c.below) h };
 
     fn tick(&mut self, empty: bool) -> bool {
         self.since += 1;
