@@ -1,3 +1,4 @@
+-- Lemmas for the laws of both arbiters; no contract cites them.
 use Rattle.std.specs.Prelude.{◌≡◌, ℕ, ◌<◌, Bool, true, false, cond, List, is_some, Some, None, Option, nat_lt, slice_index_or, refl}
 use Rattle.std.proofs.Common.{ap, ◌∙◌, arith}
 use Rattle.std.proofs.lemmas.Bool.{both_ways, and_parts, ltb-true, lt-ltb}

@@ -1,3 +1,4 @@
+-- Both arbiters answer flows of the set, and so none for the empty set: two laws, which no contract cites.
 use Rattle.std.specs.Prelude.{◌≡◌, ℕ, Bool, true, false, List, Some, None, slice_index}
 use Rattle.folds.specs.Firsts.{first_of}
 use Rattle.folds.proofs.Firsts.{of_passes}
@@ -9,7 +10,6 @@ use Rattle.arbiters.specs.RoundsLemmas.{next_belongs}
 use Rattle.arbiters.specs.declared.least_recently_granted.LeastRecentlyGranted.{LeastRecentlyGranted}
 use Rattle.arbiters.specs.declared.round_robin.RoundRobin.{RoundRobin}
 
--- both arbiters answer flows of the set, and so none for the empty set
 pub round_belongs : (a : RoundRobin) (c : ℕ) (s : List Bool) (f : ℕ) → round_choice a c s ≡ Some f → has s f ≡ true
 round_belongs a c s f h = within_belongs c (next_after (slice_index a.last c) s) f _ (next_belongs (slice_index a.last c) s f) h
 

@@ -8,7 +8,7 @@ use Rattle.routes.specs.Channels.{few_hops, known, rises, well_formed}
 use Rattle.routes.specs.Crossings.{hop, before_hop, crossing, crossing_at, after_hop, next_channel, first_channel, last_channel}
 use Rattle.routes.specs.declared.crossing.Crossing.{Crossing}
 
--- the parts of a well_formed route
+-- the parts of a well-formed route
 pub well_formed_some : (cs : List ℕ) → well_formed cs ≡ true → 1 ≤ length cs
 well_formed_some cs e =
     leb-true 1 (length cs) (and_parts (leb 1 (length cs)) (leb (length cs) 16) (and_parts (few_hops cs) (known cs && rises cs) e).0).0
