@@ -7,12 +7,11 @@ mod feeding;
 mod planning;
 mod stop;
 mod timing;
-mod wishes;
 
 use mesh::Mesh;
 use plan::{Plan, Settings};
+use printer::WISHES;
 use stop::Stop;
-use wishes::WISHES;
 
 /// Plans the printer: its routes, its reservations and its sheet.
 fn plan_printer(rt: &HostRuntime, side: u32, settings: Settings) -> Result<(), Stop> {

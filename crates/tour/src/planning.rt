@@ -1,7 +1,7 @@
 use crate::stop::Stop;
-use crate::wishes::Wish;
 use mesh::Mesh;
 use plan::{ChannelLoad, Plan, PlanRefusal};
+use printer::Wish;
 
 /// Prints the load of each channel of the route.
 fn print_loads(rt: &HostRuntime, plan: &Plan, route: &[u32]) -> Result<(), Stop> {

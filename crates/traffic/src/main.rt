@@ -3,12 +3,11 @@
 
 mod moving;
 mod stop;
-mod wishes;
 
 use mesh::Mesh;
 use plan::{Plan, Settings};
+use printer::WISHES;
 use stop::Stop;
-use wishes::WISHES;
 
 /// Plans the printer; a wish that does not fit is left out.
 fn plan_printer(side: u32, settings: Settings) -> Result<Plan, Stop> {
