@@ -1,0 +1,27 @@
+-- The places of a list after a step: blank behind its items still.
+use Rattle.std.proofs.Common.{◌≡◌, ℕ, ◌+◌, ◌-◌, ◌<◌, ◌≤◌, List, ◌++◌, length, drop, set, arith, ap, sym, ◌∙◌, length-set, length-append, length-drop}
+use Rattle.std.proofs.lemmas.List.{length-replicate, drop-replicate, drop-set-lt, drop-drop, drop_at}
+use Rattle.std.specs.Prelude.{replicate}
+use Rattle.lists.specs.Blanks.{Filled}
+
+module _ {T : Type 0} (blank : T) (n : ℕ) where
+  -- an item comes into the first blank place
+  pub filled-set : (count : ℕ) (places : List T) (x : T) → Filled blank n count places → count < n → Filled blank n (count + 1) (set places count x)
+  filled-set count places x h room = record {
+    few = omega (arith, room);
+    sized = length-set places count x ∙ h.sized;
+    blanks =
+        drop-set-lt (count + 1) places count x (omega arith)
+        ∙ sym (drop-drop 1 count places)
+        ∙ ap (drop 1) h.blanks
+        ∙ drop-replicate 1 (n - count) blank
+        ∙ ap (λ k. replicate k blank) (omega (arith, room));
+  }
+
+  -- items in front of blanks
+  pub filled-front : (count : ℕ) (xs : List T) → length xs ≡ count → count ≤ n → Filled blank n count (xs ++ drop count (replicate n blank))
+  filled-front count xs same few = record {
+    few = few;
+    sized = length-append xs _ ∙ ap (λ k. length xs + k) (length-drop count (replicate n blank) ∙ ap (λ k. k - count) (length-replicate n blank)) ∙ omega (arith, same, few);
+    blanks = drop_at xs _ count same ∙ drop-replicate count n blank;
+  }
