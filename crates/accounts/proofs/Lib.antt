@@ -4,3 +4,4 @@ pub mod Steps
 pub mod Shares
 pub mod Stretches
 pub mod Opened
+pub mod Worked

@@ -94,7 +94,7 @@ credit_spent l h =
     omega (arith, ints, ap (λ m. m.balance) g.is, mul-le-mul_right l.slots g.most, mul_comm l.slots (l.head + l.window - 1 - l.frame))
 
 answer_spent : (p : Bool) (f : ℕ) (c : ℤ) → lt_z (pos 0) c ≡ p → cond p (Ok f) (Err WindowSpent) ≡ Err WindowSpent → c ≤ℤ pos 0
-answer_spent true f c e h = let z : ◌≡◌ {A = ℕ} 0 1 = cc in absurd (omega arith)
+answer_spent true f c e h = cc
 answer_spent false f c e h = grind (arith, ints)
 
 pub spent_exactly : (l : Ledger) → SpentExactly l

@@ -37,18 +37,17 @@ unfolding refilled
 refilled_ends k l e = rw e
 
 -- the search for a frame has come to the frame f and the balance c: where it may stop, it has found the frame
-abbrev pub Found : Ledger → ℕ → ℤ → Type 0
-Found l f c =
-    (pos 0 <ℤ c → (f ≡ (ready l).frame) × (c ≡ (ready l).balance))
-    × (l.head + l.window - 1 ≤ f → (f ≡ (ready l).frame) × (c ≡ (ready l).balance))
-    × (refilled (l.head + l.window - 1 - f) (at l f c) ≡ ready l)
-    × (l.head + 1 ≤ f)
-    × (f ≤ l.head + l.window - 1)
-    × (c ≤ℤ pos l.slots)
+pub record Found (l : Ledger) (f : ℕ) (c : ℤ) : Type 0 where
+  pub paid : pos 0 <ℤ c → (f ≡ (ready l).frame) × (c ≡ (ready l).balance)
+  pub last : l.head + l.window - 1 ≤ f → (f ≡ (ready l).frame) × (c ≡ (ready l).balance)
+  pub rest : refilled (l.head + l.window - 1 - f) (at l f c) ≡ ready l
+  pub after : l.head + 1 ≤ f
+  pub within : f ≤ l.head + l.window - 1
+  pub high : c ≤ℤ pos l.slots
 
 found : (l : Ledger) (f : ℕ) (c : ℤ) → refilled (l.head + l.window - 1 - f) (at l f c) ≡ ready l →
     l.head + 1 ≤ f → f ≤ l.head + l.window - 1 → c ≤ℤ pos l.slots → Found l f c
-found l f c e ahead within high = (λ h. parts (stops h), λ h. parts (ends h), e, ahead, within, high)
+found l f c e ahead within high = record { paid = λ h. parts (stops h); last = λ h. parts (ends h); rest = e; after = ahead; within = within; high = high }
   where
     parts : at l f c ≡ ready l → (f ≡ (ready l).frame) × (c ≡ (ready l).balance)
     parts d = (ap (λ m. m.frame) d, ap (λ m. m.balance) d)
@@ -64,8 +63,8 @@ pub found_first : (l : Ledger) (c : ℤ) → Limits l → c ≡ l.balance → Fo
 found_first l c ok e = subst (Found l l.frame) (sym e) (found l l.frame l.balance refl ok.2 ok.3 ok.1)
 
 -- and goes on to the next frame
-pub found_more : (l : Ledger) (f : ℕ) (c d : ℤ) → Found l f c → f < l.head + l.window - 1 → c ≤ℤ pos 0 → d ≡ c +ℤ pos l.slots → Found l (f + 1) d
-found_more l f c d s h low e = found l (f + 1) d (again ∙ s.2) (omega arith) (omega arith) (omega (arith, ints))
+pub found_more : {l : Ledger} {f : ℕ} {c : ℤ} (d : ℤ) → Found l f c → f < l.head + l.window - 1 → c ≤ℤ pos 0 → d ≡ c +ℤ pos l.slots → Found l (f + 1) d
+found_more {l} {f} {c} d s h low e = found l (f + 1) d (again ∙ s.rest) (omega arith) (omega arith) (omega (arith, ints))
   where
     last : ℕ
     last = l.head + l.window - 1

@@ -134,7 +134,7 @@ offer_happens l size = go (bad_size l size) refl (paid l) refl
   where
     go : (b : Bool) → bad_size l size ≡ b → (p : Bool) → paid l ≡ p →
         Happens l (offer_event size (cond b (Err SizeRange) (cond p (Ok (ready l).frame) (Err WindowSpent)))) (cond b l (cond p (taken size l) l))
-    go true e p q = (λ z. let y : ◌≡◌ {A = ℕ} 0 1 = cc in absurd (omega arith), refl)
+    go true e p q = (λ z. cc, refl)
     go false e true q = let s = packet_size l size e in accepts_ready l size s.0 s.1 (is_above (ready l).balance q)
     go false e false q = (λ z. spent_credit l (is_not_above (ready l).balance q), refl)
 
@@ -143,7 +143,7 @@ shift_happens l = go (in_run l)
   where
     go : (b : Bool) → Happens l (shift_event (cond b (Ok tt) (Err RunOver))) (cond b (shifted l) l)
     go true = refl
-    go false = (λ z. let y : ◌≡◌ {A = ℕ} 0 1 = cc in absurd (omega arith), refl)
+    go false = (λ z. cc, refl)
 
 pub happens : (l : Ledger) (c : Call) → Happens l (event l c) (leaves l c)
 happens l (offer size) = offer_happens l size

@@ -46,12 +46,12 @@ abbrev pub Asks : List Event → Type 0
 Asks es = (before later : List Event) → es ≡ before ++ (shift_made ∷ later) → shifts before ≡ 0 → Refusing before
 
 is_spent : (r : AccountRefusal) → (r ≡ WindowSpent) ⊎ (refused r ≡ spent → ⊥)
-is_spent WindowRange = inr (λ z. let y : ◌≡◌ {A = ℕ} 0 1 = cc in omega arith)
-is_spent SlotsRange = inr (λ z. let y : ◌≡◌ {A = ℕ} 0 1 = cc in omega arith)
-is_spent LargestRange = inr (λ z. let y : ◌≡◌ {A = ℕ} 0 1 = cc in omega arith)
-is_spent SizeRange = inr (λ z. let y : ◌≡◌ {A = ℕ} 0 1 = cc in omega arith)
+is_spent WindowRange = inr (λ z. cc)
+is_spent SlotsRange = inr (λ z. cc)
+is_spent LargestRange = inr (λ z. cc)
+is_spent SizeRange = inr (λ z. cc)
 is_spent WindowSpent = inl refl
-is_spent RunOver = inr (λ z. let y : ◌≡◌ {A = ℕ} 0 1 = cc in omega arith)
+is_spent RunOver = inr (λ z. cc)
 
 pressed_tail : (e : Event) (es : List Event) → Pressed (e ∷ es) → Pressed es
 pressed_tail e es p before between later q z = p (e ∷ before) between later (ap (λ xs. e ∷ xs) q) z
@@ -65,7 +65,7 @@ next_asked : (l : Ledger) (e : Event) (es : List Event) (m : Ledger) → Happens
     (credit m ≤ℤ pos 0) ⊎ Asks es
 next_asked l (accepted size f) es m h p a =
     let c = accepts_credit l size f m h in
-    ⊎_elim (λ low. inl (omega (arith, ints))) (λ q. inr (asks_past (accepted size f) es (λ z. let y : ◌≡◌ {A = ℕ} 0 1 = cc in omega arith) (λ before. refl) q)) a
+    ⊎_elim (λ low. inl (omega (arith, ints))) (λ q. inr (asks_past (accepted size f) es (λ z. cc) (λ before. refl) q)) a
 next_asked l (refused r) es m h p a = ⊎_elim now later (is_spent r)
   where
     same : credit l ≤ℤ pos 0 → credit m ≤ℤ pos 0

@@ -1,13 +1,8 @@
 -- What stands in an account, and what opening one gives.
 use Rattle.std.specs.Prelude.{ℕ, Bool, cond, ◌||◌, pos, Ok, Err, Result, nat_lt}
 use Rattle.accounts.specs.Ledgers.{Ledger}
-use Rattle.accounts.specs.declared.account.Account.{Account}
 use Rattle.accounts.specs.declared.refusal.AccountRefusal.{AccountRefusal}
 use Rattle.accounts.specs.declared.refusal.AccountRefusal.TheVariants.{WindowRange, SlotsRange, LargestRange}
-
--- the numbers that an account holds
-abbrev pub ledger : Account → Ledger
-ledger a = record { slots = a.slots; largest = a.largest; window = a.window; head = a.head; frame = a.frame; balance = a.balance }
 
 -- a fresh account: head frame 0, injection frame 1 and the slots of that frame
 abbrev pub fresh : ℕ → ℕ → ℕ → Ledger
@@ -26,13 +21,3 @@ abbrev pub opened : ℕ → ℕ → ℕ → Result Ledger AccountRefusal
 opened slots largest window =
     cond (outside 2 8 window) (Err WindowRange)
     (cond (outside 1 4096 slots) (Err SlotsRange) (cond (outside 1 64 largest) (Err LargestRange) (Ok (fresh slots largest window))))
-
--- an answer, by the numbers of the account that it gives
-abbrev pub opened_as : Result Account AccountRefusal → Result Ledger AccountRefusal
-opened_as (Ok a) = Ok (ledger a)
-opened_as (Err refusal) = Err refusal
-
--- what holds of the account that an answer gives, if it gives one
-abbrev pub OfOpened : (Ledger → Type 0) → Result Account AccountRefusal → Type 0
-OfOpened Law (Ok a) = Law (ledger a)
-OfOpened Law (Err refusal) = Unit {0}

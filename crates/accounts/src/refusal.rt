@@ -2,23 +2,24 @@
 ghost use Rattle.std.specs.Prelude.{◌≡◌, Some};
 ghost use Rattle.accounts.specs.Refusals.{number_of, text_of};
 
+use std::error::Error;
 use std::fmt;
 
 /// Why an account refused a call. A refused call changes nothing.
 #[derive(Clone, Copy, Debug, PartialEq, Eq)]
 pub enum AccountRefusal {
     /// The window is not 2 to 8 frames.
-    WindowRange,
+    WindowRange = 1,
     /// The slots of a frame are not 1 to 4,096.
-    SlotsRange,
+    SlotsRange = 3,
     /// The largest packet is not 1 to 64 flits.
-    LargestRange,
+    LargestRange = 4,
     /// The packet has no flit, or more than the largest has.
-    SizeRange,
+    SizeRange = 10,
     /// The slots of all open frames are spent.
-    WindowSpent,
+    WindowSpent = 11,
     /// The run has made its last shift.
-    RunOver,
+    RunOver = 12,
 }
 
 impl AccountRefusal {
@@ -26,14 +27,7 @@ impl AccountRefusal {
     pub fn number(self) -> u32
         ensures { result ≡ number_of self }
     {
-        match self {
-            AccountRefusal::WindowRange => 1,
-            AccountRefusal::SlotsRange => 3,
-            AccountRefusal::LargestRange => 4,
-            AccountRefusal::SizeRange => 10,
-            AccountRefusal::WindowSpent => 11,
-            AccountRefusal::RunOver => 12,
-        }
+        self as u32
     }
 
     /// What a reader sees of it.
@@ -58,3 +52,5 @@ impl fmt::Display for AccountRefusal {
         f.write_str(self.text())
     }
 }
+
+impl Error for AccountRefusal {}

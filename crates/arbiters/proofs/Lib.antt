@@ -1,3 +1,4 @@
 pub mod Orders
+pub mod Searches
 pub mod Rules
 pub mod Edges

@@ -1,15 +1,11 @@
-use Rattle.std.specs.Prelude.{ℕ, ◌+◌, Bool, cond, ◌&&◌, List, replicate, Some, None, Option, nat_lt, slice_index, slice_set}
+use Rattle.std.specs.Prelude.{ℕ, ◌+◌, Bool, cond, ◌&&◌, List, replicate, None, Option, nat_lt, slice_index, slice_set}
+use Rattle.std.specs.Option.{option_or}
 use Rattle.arbiters.specs.FlowSets.{first_between}
 use Rattle.arbiters.specs.declared.round_robin.RoundRobin.{RoundRobin}
 
--- the first of two answers that there is
-abbrev pub or_else : Option ℕ → Option ℕ → Option ℕ
-or_else (Some f) other = Some f
-or_else None other = other
-
 -- the first flow of the set after the last one: up to 63, and then from 0 up to the last one itself
 abbrev pub next_after : ℕ → List Bool → Option ℕ
-next_after last s = or_else (first_between s (last + 1) 64) (first_between s 0 (last + 1))
+next_after last s = option_or (first_between s (last + 1) 64) (first_between s 0 (last + 1))
 
 -- what it answers for a channel and a set
 abbrev pub round_choice : RoundRobin → ℕ → List Bool → Option ℕ

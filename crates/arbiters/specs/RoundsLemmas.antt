@@ -1,21 +1,22 @@
 -- Lemmas for the laws of round robin; no contract cites them.
 use Rattle.std.specs.Prelude.{◌≡◌, ℕ, ◌+◌, ◌-◌, ◌<◌, ◌≤◌, Bool, true, List, is_some, Some, None, Option, refl}
+use Rattle.std.specs.Option.{option_or}
 use Rattle.std.proofs.Common.{⊎_elim, arith}
 use Rattle.std.proofs.lemmas.Bool.{cases_lt, false≢true}
 use Rattle.folds.proofs.Firsts.{first_passes, first_finds}
 use Rattle.arbiters.specs.FlowSets.{has}
-use Rattle.arbiters.specs.Rounds.{or_else, next_after}
+use Rattle.arbiters.specs.Rounds.{next_after}
 use Rattle.arbiters.specs.Answering.{member_below}
 
-else_some : (a b : Option ℕ) (f : ℕ) (P : Type 0) → (a ≡ Some f → P) → (b ≡ Some f → P) → or_else a b ≡ Some f → P
+else_some : (a b : Option ℕ) (f : ℕ) (P : Type 0) → (a ≡ Some f → P) → (b ≡ Some f → P) → option_or a b ≡ Some f → P
 else_some (Some x) b f P p q h = p h
 else_some None b f P p q h = q h
 
-else_first : (a b : Option ℕ) → is_some a ≡ true → is_some (or_else a b) ≡ true
+else_first : (a b : Option ℕ) → is_some a ≡ true → is_some (option_or a b) ≡ true
 else_first (Some x) b h = refl
 else_first None b h = absurd (false≢true h)
 
-else_second : (a b : Option ℕ) → is_some b ≡ true → is_some (or_else a b) ≡ true
+else_second : (a b : Option ℕ) → is_some b ≡ true → is_some (option_or a b) ≡ true
 else_second (Some x) b h = refl
 else_second None b h = h
 

@@ -16,7 +16,7 @@ pub trait Arbiter {
 
     /// The flow of the set that may cross the channel; none for an empty set or a channel above 319.
     fn pick(&self, channel: u32, flows: &FlowSet) -> Option<u32>
-        ensures { result ≡ choice self.now channel flows.now.members };
+        ensures { result ≡ choice self.now channel flows.now };
 
     /// Tells that the flow crossed the channel; a channel above 319 or a flow above 63 is ignored.
     fn grant(&mut self, channel: u32, flow: u32)

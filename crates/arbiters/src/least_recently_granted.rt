@@ -19,12 +19,6 @@ pub struct LeastRecentlyGranted {
     orders: [Order; 320],
 }
 
-/// Does nothing: proves what `new` says of every such arbiter.
-fn laws()
-    ensures rule { RecencyRule }
-    ensures edge { RecencyOfTwo }
-{}
-
 impl LeastRecentlyGranted {
     /// Every channel with the order 0 to 63.
     pub fn new() -> Self
@@ -32,7 +26,6 @@ impl LeastRecentlyGranted {
         ensures rule { RecencyRule }
         ensures edge { RecencyOfTwo }
     {
-        laws();
         LeastRecentlyGranted {
             orders: [Order::rising(); 320],
         }

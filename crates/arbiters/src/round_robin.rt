@@ -16,12 +16,6 @@ pub struct RoundRobin {
     last: [u8; 320],
 }
 
-/// Does nothing: proves what `new` says of every round robin.
-fn laws()
-    ensures rule { RoundRule }
-    ensures edge { RoundOfTwo }
-{}
-
 impl RoundRobin {
     /// As after a grant to flow 63 on each channel.
     pub fn new() -> Self
@@ -29,7 +23,6 @@ impl RoundRobin {
         ensures rule { RoundRule }
         ensures edge { RoundOfTwo }
     {
-        laws();
         RoundRobin { last: [63; 320] }
     }
 }
@@ -53,11 +46,10 @@ impl Arbiter for RoundRobin {
         if channel >= CHANNELS {
             return None;
         }
-        let last = self.last[channel as usize] as u32;
-        match flows.first_between(last + 1, FLOWS) {
-            Some(flow) => Some(flow),
-            None => flows.first_between(0, last + 1),
-        }
+        let last = u32::from(self.last[channel as usize]);
+        flows
+            .first_between(last + 1, FLOWS)
+            .or_else(|| flows.first_between(0, last + 1))
     }
 
     fn grant(&mut self, channel: u32, flow: u32) {

@@ -1,15 +1,16 @@
 ghost use Rattle.std.specs.Prelude.{◌≡◌, Some};
 ghost use Rattle.clocks.specs.Refusals.{refusal_number, refusal_text};
 
+use std::error::Error;
 use std::fmt;
 
 /// Why a clock was not made.
 #[derive(Clone, Copy, Debug, PartialEq, Eq)]
 pub enum ClockRefusal {
     /// The latency or period is out of its range.
-    OutOfRange,
+    OutOfRange = 13,
     /// The lag would be above 4,194,304.
-    LagTooLong,
+    LagTooLong = 14,
 }
 
 impl ClockRefusal {
@@ -17,10 +18,7 @@ impl ClockRefusal {
     pub fn number(self) -> u32
         ensures { result ≡ refusal_number self }
     {
-        match self {
-            ClockRefusal::OutOfRange => 13,
-            ClockRefusal::LagTooLong => 14,
-        }
+        self as u32
     }
 }
 
@@ -34,3 +32,5 @@ impl fmt::Display for ClockRefusal {
         }
     }
 }
+
+impl Error for ClockRefusal {}

@@ -1,5 +1,4 @@
-use Rattle.std.proofs.Common.{◌≡◌, ℕ, zero, suc, ◌+◌, ◌-◌, ◌<◌, ◌≤◌, Bool, true, false, cond, List, [], ◌∷◌, ◌++◌, length, get_or, drop, is_some, Some, None, sym, refl, ap, ◌∙◌, subst, ⊎_elim, arith}
-use Rattle.std.proofs.lemmas.List.{at_drop_more, at_drop_all}
+use Rattle.std.proofs.Common.{◌≡◌, ℕ, zero, suc, ◌+◌, ◌-◌, ◌<◌, ◌≤◌, Bool, true, false, cond, List, [], ◌∷◌, ◌++◌, is_some, Some, None, sym, refl, ap, ◌∙◌, subst, ⊎_elim, arith}
 use Rattle.std.proofs.lemmas.Bool.{both_ways, cases_eq}
 use Rattle.std.specs.List.{AllByRecursion as All}
 use Rattle.folds.specs.Firsts.{first_up, first_of}
@@ -19,20 +18,6 @@ module _ (p : ℕ → Bool) (i n : ℕ) where
   unfolding first_up
   first_end l = ap (first_up p i) (none_left i n l)
 
--- the turns of a search along a list
-module _ {X : Type 0} (p : X → Bool) (xs : List X) (k : ℕ) where
-  pub of_hit : (d : X) → k < length xs → p (get_or xs k d) ≡ true → first_of p (drop k xs) ≡ Some (get_or xs k d)
-  unfolding first_of
-  of_hit d l h = at_drop_more (first_of p) xs k d l ∙ ap (λ b. cond b (Some (get_or xs k d)) (first_of p (drop (k + 1) xs))) h
-
-  pub of_miss : (d : X) → k < length xs → p (get_or xs k d) ≡ false → first_of p (drop k xs) ≡ first_of p (drop (k + 1) xs)
-  unfolding first_of
-  of_miss d l h = at_drop_more (first_of p) xs k d l ∙ ap (λ b. cond b (Some (get_or xs k d)) (first_of p (drop (k + 1) xs))) h
-
-  pub of_end : length xs ≤ k → first_of p (drop k xs) ≡ None
-  unfolding first_of
-  of_end l = at_drop_all (first_of p) xs k l
-
 -- what such a search answers: a number that passes, and none only where none passes
 module _ (p : ℕ → Bool) where
   passes_by : (i k n : ℕ) (b : Bool) → p i ≡ b → (first_up p (i + 1) n ≡ Some k → p k ≡ true) → cond b (Some i) (first_up p (i + 1) n) ≡ Some k → p k ≡ true
@@ -41,7 +26,7 @@ module _ (p : ℕ → Bool) where
 
   pub first_passes : (i n k : ℕ) → first_up p i n ≡ Some k → p k ≡ true
   unfolding first_up
-  first_passes i zero k h = let z : ◌≡◌ {A = ℕ} 0 1 = cc in absurd (omega arith)
+  first_passes i zero k h = cc
   first_passes i (suc n) k h = passes_by i k n (p i) refl (first_passes (i + 1) n k) h
 
   finds_by : (i k n : ℕ) (b : Bool) → p i ≡ b → p k ≡ true → i ≤ k → k < i + suc n → (i + 1 ≤ k → is_some (first_up p (i + 1) n) ≡ true) →
@@ -62,7 +47,7 @@ module _ {X : Type 0} (p : X → Bool) where
 
   pub of_passes : (xs : List X) (y : X) → first_of p xs ≡ Some y → p y ≡ true
   unfolding first_of
-  of_passes [] y h = let z : ◌≡◌ {A = ℕ} 0 1 = cc in absurd (omega arith)
+  of_passes [] y h = cc
   of_passes (x ∷ xs) y h = of_passes_by x y xs (p x) refl (of_passes xs y) h
 
   -- and an element of the list: what holds of each holds of it, and what is put behind the list changes nothing
@@ -72,7 +57,7 @@ module _ {X : Type 0} (p : X → Bool) where
 
   pub of_among : (Q : X → Type 0) (xs : List X) (y : X) → All Q xs → first_of p xs ≡ Some y → Q y
   unfolding first_of
-  of_among Q [] y all h = let z : ◌≡◌ {A = ℕ} 0 1 = cc in absurd (omega arith)
+  of_among Q [] y all h = cc
   of_among Q (x ∷ xs) y all h = of_among_by Q x y xs (p x) all.0 (of_among Q xs y all.1) h
 
   of_append_by : (x y : X) (xs ys : List X) (b : Bool) → (first_of p xs ≡ Some y → first_of p (xs ++ ys) ≡ Some y) → cond b (Some x) (first_of p xs) ≡ Some y →
@@ -82,7 +67,7 @@ module _ {X : Type 0} (p : X → Bool) where
 
   pub of_append : (xs ys : List X) (y : X) → first_of p xs ≡ Some y → first_of p (xs ++ ys) ≡ Some y
   unfolding first_of
-  of_append [] ys y h = let z : ◌≡◌ {A = ℕ} 0 1 = cc in absurd (omega arith)
+  of_append [] ys y h = cc
   of_append (x ∷ xs) ys y h = of_append_by x y xs ys (p x) (of_append xs ys y) h
 
 -- where nothing passes, nothing is found

@@ -65,7 +65,7 @@ module _ (p : ℕ → Bool) where
 
   pub first_within : (i n k : ℕ) → first_up p i n ≡ Some k → (i ≤ k) × (k < i + n)
   unfolding first_up
-  first_within i zero k h = let z : ◌≡◌ {A = ℕ} 0 1 = cc in absurd (omega arith)
+  first_within i zero k h = absurd cc
   first_within i (suc n) k h = within_by i n k (p i) (first_within (i + 1) n k) h
 
   stops_by : (i n k : ℕ) (b : Bool) → p i ≡ b → i ≤ k → p k ≡ true → ((j : ℕ) → i ≤ j → j < k → p j ≡ false) →

@@ -1,5 +1,5 @@
 -- An accepted packet's flits are held in its frame, and an offer leaves held what was held.
-use Rattle.std.proofs.Common.{◌≡◌, ℕ, ◌+◌, ◌-◌, ◌<◌, ◌≤◌, Bool, true, false, cond, ltb, ◌≢◌, ◌⊎◌, length, get_or, take, set, Ok, Err, sum, sym, refl, ap, ◌∙◌, subst, inl, inr, arith}
+use Rattle.std.proofs.Common.{◌≡◌, ℕ, ◌+◌, ◌-◌, ◌<◌, ◌≤◌, Bool, true, false, cond, ltb, ◌≢◌, ◌⊎◌, length, get_or, take, set, Ok, sum, sym, refl, ap, ◌∙◌, subst, inl, inr, arith}
 use Rattle.std.proofs.lemmas.List.{get_or-set_same, get_or-set_other}
 use Rattle.std.proofs.lemmas.List.Sums.{sum_by-take-le}
 use Rattle.std.proofs.lemmas.Bool.{cases_eq, cases_order, ltb-true}
@@ -7,21 +7,11 @@ use Rattle.accounts.specs.Offers.{ready, bad_size, paid}
 use Rattle.accounts.proofs.Ready.{ready_is}
 use Rattle.plan.specs.Tables.{Table}
 use Rattle.sources.specs.Lines.{Line, joined, turned_away, offered}
-use Rattle.sources.specs.declared.refusal.OfferRefusal.TheVariants.{PacketSize, WindowSpent}
 use Rattle.running.specs.Nets.{Net, no_line, line, flows}
-use Rattle.running.specs.Offers.{from_source, offer_answer, with_line, offer_leaves}
-use Rattle.running.specs.declared.refusal.RunRefusal.TheVariants.{NoSuchFlow}
+use Rattle.running.specs.Offers.{offer_answer, with_line, offer_leaves}
+use Rattle.running.proofs.Answering.{answered}
 use Rattle.guarantee.proofs.Goods.{LineOk, Good}
 use Rattle.guarantee.proofs.Holding.{Waits, Holds, up_next, up_set, up_later, zeros_behind}
-
--- what an answer that gives a frame says
-answered : (there bad good : Bool) (f g : ℕ) →
-    cond there (from_source (cond bad (Err PacketSize) (cond good (Ok g) (Err WindowSpent)))) (Err NoSuchFlow) ≡ Ok f →
-    (there ≡ true) × (bad ≡ false) × (good ≡ true) × (f ≡ g)
-answered false bad good f g e = let z : ◌≡◌ {A = ℕ} 0 1 = cc in absurd (omega arith)
-answered true true good f g e = let z : ◌≡◌ {A = ℕ} 0 1 = cc in absurd (omega arith)
-answered true false true f g e = (refl, refl, refl, cc)
-answered true false false f g e = let z : ◌≡◌ {A = ℕ} 0 1 = cc in absurd (omega arith)
 
 module _ (t : Table) (n : Net) (good : Good t n) (i : ℕ) (among : i < flows n) where
   abbrev mine : Line
@@ -135,7 +125,7 @@ module _ (t : Table) (n : Net) (good : Good t n) (i size : ℕ) where
 
   module _ (f : ℕ) (answer : offer_answer n i size ≡ Ok f) where
     says : (ltb i (flows n) ≡ true) × (bad_size (line n i).ledger size ≡ false) × (paid (line n i).ledger ≡ true) × (f ≡ (ready (line n i).ledger).frame)
-    says = answered (ltb i (flows n)) (bad_size (line n i).ledger size) (paid (line n i).ledger) f (ready (line n i).ledger).frame answer
+    says = answered (ltb i (flows n)) (bad_size (line n i).ledger size) (paid (line n i).ledger) f (ready (line n i).ledger).frame (sym answer)
 
     among : i < flows n
     among = ltb-true i (flows n) says.0

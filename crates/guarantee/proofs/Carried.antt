@@ -1,19 +1,20 @@
 -- The moves leave held what was held, each flit in its frame, or deliver it.
 use Rattle.std.proofs.Common.{◌≡◌, ℕ, zero, suc, ◌+◌, ◌<◌, ◌≤◌, Bool, true, false, cond, not, ◌&&◌, eqb, ltb, ◌≢◌, ◌⊎◌, List, [], ◌∷◌, ◌++◌, length, get_or, take, is_some, Some, None, Option, sym, refl, ap, ◌∙◌, subst, inl, inr, ⊎_elim, add-one, arith}
 use Rattle.std.proofs.lemmas.List.{get_or-set_same, get_or-set_other}
-use Rattle.std.proofs.lemmas.Bool.{both_ways, cases_eq, eqb-true, eq-eqb, ne_eqb, ltb-true, ltb-false, or_left, and_from}
+use Rattle.std.proofs.lemmas.Bool.{both_ways, cases_eq, eq-eqb, ltb-true, ltb-false, or_left, and_from}
 use Rattle.folds.specs.Firsts.{first_up}
 use Rattle.folds.proofs.Firsts.{first_passes}
 use Rattle.lanes.specs.Lanes.{rest_of}
 use Rattle.lanes.specs.declared.flits.Flit.{Flit}
 use Rattle.routes.specs.declared.crossing.Crossing.{Crossing}
 use Rattle.sources.specs.Lines.{Line, first_place, without_first}
-use Rattle.running.specs.Crossed.{without_front, with_flit, crossed_lane, crossed_line, crossed_by, crossed}
+use Rattle.running.specs.Crossed.{without_front, with_flit, crossed_line, crossed_by, crossed}
 use Rattle.running.specs.Moves.{at_channel, no_flit, ready_flit, left_if, arrived_if, moved, arrives_by, arrive, arrivals}
 use Rattle.running.specs.Nets.{Net, no_line, line, flows}
 use Rattle.running.specs.Requests.{leads, is_at, stands, requests}
 use Rattle.running.specs.Valid.{Valid, Routed}
 use Rattle.running.specs.declared.grant.Grant.{Grant}
+use Rattle.running.proofs.Fronts.{is_at_some, lane_here, lane_elsewhere}
 use Rattle.running.proofs.Ready.{requested}
 use Rattle.running.proofs.Same.{moved_none, moved_skip, moved_all}
 use Rattle.running.proofs.Together.{moved_one, ready_one, ready_flow, arrivals_one}
@@ -29,12 +30,8 @@ module _ (p : ℕ → Bool) where
 
   first_below : (i n k j : ℕ) → first_up p i n ≡ Some k → i ≤ j → j < k → p j ≡ false
   unfolding first_up
-  first_below i zero k j h l m = let z : ◌≡◌ {A = ℕ} 0 1 = cc in absurd (omega arith)
+  first_below i zero k j h l m = absurd cc
   first_below i (suc n) k j h l m = below_by i k n j (p i) refl (first_below (i + 1) n k j) h l m
-
-at_some : (o : Option ℕ) (k : ℕ) → is_at o k ≡ true → o ≡ Some k
-at_some None k h = absurd (both_ways true (sym h) refl)
-at_some (Some j) k h = ap Some (eqb-true j k h)
 
 -- the flit that leaves its source is the first one of those that wait
 first_leaves : (l : Line) (a k num : ℕ) → first_place l ≡ Some a → Waits l k num →
@@ -67,18 +64,6 @@ module _ (m : Net) (c : ℕ) (g : Grant) (x : Crossing) (low : g.flow < flows m)
   abbrev Follows : ℕ → ℕ → ℕ → Type 0
   Follows i num f = Holds after i num f ⊎ (has_flit i num (arrives_by m g (Some x)) ≡ true)
 
-  lane_here : (d : ℕ) → crossed_lane m c g x d g.ahead
-      ≡ without_front (is_at x.before d) (m.lane d g.ahead) ++ with_flit (eqb d c && not x.last) flit
-  lane_here d =
-      ap (λ b. cond b (without_front (is_at x.before d) (m.lane d g.ahead) ++ with_flit (eqb d c && not x.last) flit) (m.lane d g.ahead))
-      (eq-eqb g.ahead g.ahead refl)
-
-  lane_elsewhere : (d k : ℕ) → (k ≡ g.ahead → ⊥) → crossed_lane m c g x d k ≡ m.lane d k
-  lane_elsewhere d k ne =
-      ap (λ b. cond b (without_front (is_at x.before d) (m.lane d k) ++ with_flit (eqb d c && not x.last) (ready_flit m k g.flow x.before))
-      (m.lane d k))
-      (ne_eqb k g.ahead ne)
-
   -- the flit that crosses comes to channel c's buffer, or is delivered
   lands_by : (last : Bool) → x.last ≡ last → (i num : ℕ) → has_flit i num (flit ∷ []) ≡ true → Follows i num (m.head + g.ahead)
   lands_by true e i num h = inr (ap (λ b. has_flit i num (cond b (flit ∷ []) [])) e ∙ h)
@@ -88,7 +73,7 @@ module _ (m : Net) (c : ℕ) (g : Grant) (x : Crossing) (low : g.flow < flows m)
         refl,
         inr (
           c,
-          ap (has_flit i num) (lane_here c)
+          ap (has_flit i num) (lane_here m c g x c)
               ∙ ap (λ b. has_flit i num (without_front (is_at x.before c) (m.lane c g.ahead) ++ with_flit b flit))
               (and_from (eqb c c) (not x.last) (eq-eqb c c refl) (ap not e))
               ∙ has_right i num (without_front (is_at x.before c) (m.lane c g.ahead)) (flit ∷ []) h,
@@ -104,7 +89,7 @@ module _ (m : Net) (c : ℕ) (g : Grant) (x : Crossing) (low : g.flow < flows m)
       ⊎ Waits (left_if (not (is_some o)) (line m g.flow)) k num
   leaves_by None e k num w =
       let here : is_at (first_place (line m g.flow)) g.ahead ≡ true = ap (stands m g.ahead g.flow) (sym e) ∙ stood in
-      let place : first_place (line m g.flow) ≡ Some g.ahead = at_some (first_place (line m g.flow)) g.ahead here in
+      let place : first_place (line m g.flow) ≡ Some g.ahead = is_at_some (first_place (line m g.flow)) g.ahead here in
       ⊎_elim
       (λ q. inl (
         q.1,
@@ -142,7 +127,7 @@ module _ (m : Net) (c : ℕ) (g : Grant) (x : Crossing) (low : g.flow < flows m)
         refl,
         inr (
           d,
-          ap (has_flit i num) (lane_here d)
+          ap (has_flit i num) (lane_here m c g x d)
               ∙ ap (λ t. has_flit i num (without_front t (m.lane d g.ahead) ++ with_flit (eqb d c && not x.last) flit)) e
               ∙ has_left i num (without_front b (m.lane d g.ahead)) (with_flit (eqb d c && not x.last) flit) h,
         ),
@@ -151,7 +136,7 @@ module _ (m : Net) (c : ℕ) (g : Grant) (x : Crossing) (low : g.flow < flows m)
   lies_here : (i num d : ℕ) (b : Bool) → is_at x.before d ≡ b → has_flit i num (m.lane d g.ahead) ≡ true → Follows i num (m.head + g.ahead)
   lies_here i num d false e h = stays i num d false e h
   lies_here i num d true e h =
-      let here : x.before ≡ Some d = at_some x.before d e in
+      let here : x.before ≡ Some d = is_at_some x.before d e in
       ⊎_elim
       (λ q. lands i num (ap (λ o. has_flit i num (ready_flit m g.ahead g.flow o ∷ [])) here ∙ q))
       (stays i num d true e)
@@ -161,7 +146,7 @@ module _ (m : Net) (c : ℕ) (g : Grant) (x : Crossing) (low : g.flow < flows m)
   lies_by i k num f d e h (inl p) =
       subst (Follows i num) (ap (λ j. m.head + j) (sym p) ∙ sym e)
       (lies_here i num d (is_at x.before d) refl (ap (λ j. has_flit i num (m.lane d j)) (sym p) ∙ h))
-  lies_by i k num f d e h (inr ne) = inl (k, e, inr (d, ap (has_flit i num) (lane_elsewhere d k ne) ∙ h))
+  lies_by i k num f d e h (inr ne) = inl (k, e, inr (d, ap (has_flit i num) (lane_elsewhere m c g x d k ne) ∙ h))
 
   follows : (i num f : ℕ) → Holds m i num f → Follows i num f
   follows i num f (k, e, inl w) = waits_by i k num f e w (cases_eq i g.flow)

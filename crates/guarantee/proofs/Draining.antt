@@ -1,22 +1,21 @@
 -- A flit that crosses its channel needs one crossing fewer, and no other flit is touched.
-use Rattle.std.proofs.Common.{◌≡◌, ℕ, ◌+◌, ◌*◌, ◌<◌, Bool, true, false, cond, not, ◌&&◌, eqb, ◌⊎◌, List, [], ◌∷◌, ◌++◌, length, get_or, is_some, Some, None, Option, sym, refl, ap, ◌∙◌, subst, inl, inr, append-nil, add-mul, one-mul, arith}
+use Rattle.std.proofs.Common.{◌≡◌, ℕ, ◌+◌, ◌*◌, ◌<◌, Bool, true, false, cond, not, eqb, ◌⊎◌, List, [], ◌∷◌, ◌++◌, length, get_or, is_some, Some, None, Option, sym, refl, ap, ◌∙◌, subst, inl, inr, add-mul, one-mul, arith}
 use Rattle.std.proofs.lemmas.List.{length-set}
-use Rattle.std.proofs.lemmas.Bool.{both_ways, cases_eq, eq-eqb, ne_eqb, eqb-true}
+use Rattle.std.proofs.lemmas.Bool.{cases_eq, eq-eqb, ne_eqb}
 use Rattle.folds.specs.Sums.{total}
-use Rattle.folds.proofs.Sums.{total_balance, total_same, total_none, total_one, total_at}
+use Rattle.folds.proofs.Sums.{total_balance, total_same, total_none, total_one}
 use Rattle.lanes.specs.declared.flits.Flit.{Flit}
 use Rattle.routes.specs.Channels.{well_formed}
 use Rattle.routes.specs.Crossings.{crossing}
 use Rattle.routes.specs.declared.crossing.Crossing.{Crossing}
-use Rattle.routes.proofs.Crossings.{crossing_known, before_known}
 use Rattle.sources.specs.Lines.{Line}
-use Rattle.running.specs.Crossed.{without_front, with_flit, crossed_lane, crossed_line, crossed_by, crossed}
-use Rattle.running.specs.Moves.{no_flit, ready_flit}
+use Rattle.running.specs.Crossed.{crossed_lane, crossed_line, crossed_by, crossed}
 use Rattle.running.specs.Nets.{Net, line, route, flows}
-use Rattle.running.specs.Requests.{leads, is_at, stands, requests}
+use Rattle.running.specs.Requests.{stands, requests}
 use Rattle.running.specs.Sounds.{Sound}
 use Rattle.running.specs.declared.grant.Grant.{Grant}
 use Rattle.running.proofs.Carrying.{Carried, line_carried}
+use Rattle.running.proofs.Fronts.{at_before, lane_elsewhere, frame_balance}
 use Rattle.running.proofs.Keeping.{kept_field, new_field, other_field}
 use Rattle.running.proofs.Ready.{Requested, requested}
 use Rattle.guarantee.proofs.Goods.{to_go, all_to_go, work}
@@ -47,63 +46,10 @@ work_alike m n j k f r w l =
     (λ c h. to_go_alike m n r c (m.lane c j) ∙ ap (all_to_go n c) (l c)) in
     λ t. sources t + buffers t
 
--- the flit that stands ready is one of its flow
-lead_flow : (q : List Flit) (i : ℕ) → leads q i ≡ true → (get_or q 0 no_flit).flow ≡ i
-lead_flow [] i s = absurd (both_ways true (sym s) refl)
-lead_flow (y ∷ q) i s = eqb-true y.flow i s
-
-ready_flow : (n : Net) (k i : ℕ) (b : Option ℕ) → stands n k i b ≡ true → (ready_flit n k i b).flow ≡ i
-ready_flow n k i None s = refl
-ready_flow n k i (Some d) s = lead_flow (n.lane d k) i s
-
-front_leads : (n : Net) (k i : ℕ) (o : Option ℕ) → stands n k i o ≡ true → (d : ℕ) → is_at o d ≡ true → leads (n.lane d k) i ≡ true
-front_leads n k i None s d h = absurd (both_ways true (sym h) refl)
-front_leads n k i (Some b) s d h = ap (λ e. leads (n.lane e k) i) (sym (eqb-true b d h)) ∙ s
-
--- a queue that loses its front and gets a flit at its back
+-- a queue that gets a flit at its back
 push_to_go : (n : Net) (d : ℕ) (q : List Flit) (y : Flit) → all_to_go n d (q ++ y ∷ []) ≡ all_to_go n d q + to_go (route n y.flow) d
 push_to_go n d [] y = omega arith
 push_to_go n d (z ∷ q) y = omega (arith, push_to_go n d q y)
-
-module _ (n : Net) (d i : ℕ) where
-  abbrev left : ℕ
-  left = to_go (route n i) d
-
-  mine : (y : Flit) → y.flow ≡ i → to_go (route n y.flow) d ≡ left
-  mine y f = ap (λ j. to_go (route n j) d) f
-
-  queue_to_go : (q : List Flit) (y : Flit) (b p : Bool) → (b ≡ true → leads q i ≡ true) → y.flow ≡ i →
-      all_to_go n d (without_front b q ++ with_flit p y) + cond b left 0 ≡ all_to_go n d q + cond p left 0
-  queue_to_go [] y true p s f = absurd (both_ways true (sym (s refl)) refl)
-  queue_to_go (z ∷ q) y true true s f = omega (arith, mine z (eqb-true z.flow i (s refl)), mine y f, push_to_go n d q y)
-  queue_to_go (z ∷ q) y true false s f = omega (arith, mine z (eqb-true z.flow i (s refl)), ap (all_to_go n d) (append-nil q))
-  queue_to_go q y false true s f = omega (arith, mine y f, push_to_go n d q y)
-  queue_to_go q y false false s f = ap (λ r. all_to_go n d r + 0) (append-nil q)
-
--- what all buffers of the frame lose and gain
-module _ (e : ℕ → ℕ) where
-  gained_at : (c d : ℕ) (b : Bool) → ((d ≡ c) ⊎ (d ≡ c → ⊥)) → cond (eqb d c && b) (e d) 0 ≡ cond (eqb d c) (cond b (e c) 0) 0
-  gained_at c d b (inl p) =
-      ap (λ t. cond (t && b) (e d) 0) (eq-eqb d c p) ∙ ap (λ j. cond b (e j) 0) p ∙ sym (ap (λ t. cond t (cond b (e c) 0) 0) (eq-eqb d c p))
-  gained_at c d b (inr ne) = ap (λ t. cond (t && b) (e d) 0) (ne_eqb d c ne) ∙ sym (ap (λ t. cond t (cond b (e c) 0) 0) (ne_eqb d c ne))
-
-  gained : (c : ℕ) (b : Bool) → c < 320 → total (λ d. cond (eqb d c && b) (e d) 0) 320 ≡ cond b (e c) 0
-  gained c b l =
-      total_same (λ d. cond (eqb d c && b) (e d) 0) (λ d. cond (eqb d c) (cond b (e c) 0) 0) 320 (λ d m. gained_at c d b (cases_eq d c))
-      ∙ total_one (cond b (e c) 0) c 320 l
-
-  lost_at : (b d : ℕ) → ((b ≡ d) ⊎ (b ≡ d → ⊥)) → cond (eqb b d) (e d) 0 ≡ cond (eqb b d) (e b) 0
-  lost_at b d (inl p) = ap (λ j. cond (eqb b d) (e j) 0) (sym p)
-  lost_at b d (inr ne) = ap (λ t. cond t (e d) 0) (ne_eqb b d ne) ∙ sym (ap (λ t. cond t (e b) 0) (ne_eqb b d ne))
-
-  abbrev at_before : Option ℕ → ℕ
-  at_before None = 0
-  at_before (Some d) = e d
-
-  lost : (o : Option ℕ) → ((d : ℕ) → o ≡ Some d → d < 320) → total (λ d. cond (is_at o d) (e d) 0) 320 ≡ at_before o
-  lost None w = total_none (λ d. 0) 320 (λ d l. refl)
-  lost (Some b) w =
-      total_same (λ d. cond (eqb b d) (e d) 0) (λ d. cond (eqb b d) (e b) 0) 320 (λ d m. lost_at b d (cases_eq b d)) ∙ total_at (e b) b 320 (w b refl)
 
 -- a product whose first factor falls by one, where it does
 less_by : (b : Bool) (w' w r : ℕ) → w' + cond b 1 0 ≡ w → w' * r + cond b r 0 ≡ w * r
@@ -131,15 +77,6 @@ module _
   abbrev way : List ℕ
   way = route n g.flow
 
-  abbrev flit : Flit
-  flit = ready_flit n g.ahead g.flow x.before
-
-  abbrev loses : ℕ → Bool
-  loses d = is_at x.before d
-
-  abbrev gets : ℕ → Bool
-  gets d = eqb d c && not x.last
-
   routed : well_formed way ≡ true
   routed = (ok.1 g.flow among).3
 
@@ -152,22 +89,12 @@ module _
   same_route : (j : ℕ) → route after j ≡ route n j
   same_route j = kept_field (λ l. l.route) n.lines g.flow carried_line among carried.route j
 
-  lane_here : (d : ℕ) → crossed_lane n c g x d g.ahead ≡ without_front (loses d) (n.lane d g.ahead) ++ with_flit (gets d) flit
-  lane_here d =
-      ap (λ b. cond b (without_front (loses d) (n.lane d g.ahead) ++ with_flit (gets d) flit) (n.lane d g.ahead))
-      (eq-eqb g.ahead g.ahead refl)
-
-  lane_elsewhere : (d k : ℕ) → (k ≡ g.ahead → ⊥) → crossed_lane n c g x d k ≡ n.lane d k
-  lane_elsewhere d k ne =
-      ap (λ b. cond b (without_front (loses d) (n.lane d k) ++ with_flit (gets d) (ready_flit n k g.flow x.before)) (n.lane d k))
-      (ne_eqb k g.ahead ne)
-
   -- the other frames
   waiting_elsewhere : (k : ℕ) → (k ≡ g.ahead → ⊥) → (i : ℕ) → get_or (line after i).waiting k 0 ≡ get_or (line n i).waiting k 0
   waiting_elsewhere k ne i = kept_field (λ l. get_or l.waiting k 0) n.lines g.flow carried_line among (carried.elsewhere k ne) i
 
   others : (k : ℕ) → (k ≡ g.ahead → ⊥) → work after k ≡ work n k
-  others k ne = work_alike after n k k same_flows same_route (λ i l. waiting_elsewhere k ne i) (λ d. lane_elsewhere d k ne)
+  others k ne = work_alike after n k k same_flows same_route (λ i l. waiting_elsewhere k ne i) (λ d. lane_elsewhere n c g x d k ne)
 
   -- the granted frame: what waits at the source
   abbrev leaves : ℕ
@@ -207,17 +134,12 @@ module _
   -- and what lies in buffers
   buffers : buffer_work after g.ahead + at_before (to_go way) x.before ≡ buffer_work n g.ahead + cond (not x.last) (to_go way c) 0
   buffers =
-      omega (
-        arith,
-        lost (to_go way) x.before (before_known way c x routed is),
-        gained (to_go way) c (not x.last) (crossing_known way c x routed is),
-        total_balance (λ d. all_to_go after d (crossed_lane n c g x d g.ahead)) (λ d. cond (loses d) (to_go way d) 0)
-            (λ d. all_to_go n d (n.lane d g.ahead)) (λ d. cond (gets d) (to_go way d) 0) 320
-            (λ d l. ap (λ t. t + cond (loses d) (to_go way d) 0)
-            (to_go_alike after n same_route d (crossed_lane n c g x d g.ahead) ∙ ap (all_to_go n d) (lane_here d))
-            ∙ queue_to_go n d g.flow (n.lane d g.ahead) flit (loses d) (gets d)
-            (front_leads n g.ahead g.flow x.before stood d) (ready_flow n g.ahead g.flow x.before stood)),
-      )
+      ap (λ t. t + at_before (to_go way) x.before)
+      (total_same (λ d. all_to_go after d (crossed_lane n c g x d g.ahead)) (λ d. all_to_go n d (crossed_lane n c g x d g.ahead)) 320
+      (λ d l. to_go_alike after n same_route d (crossed_lane n c g x d g.ahead)))
+      ∙ frame_balance n c g x routed is stood (to_go way) (all_to_go n)
+      (λ d y q f. ap (λ j. to_go (route n j) d + all_to_go n d q) f)
+      (λ d y q f. push_to_go n d q y ∙ ap (λ j. all_to_go n d q + to_go (route n j) d) f)
 
   here : work after g.ahead + 1 ≡ work n g.ahead
   here =

@@ -1,21 +1,22 @@
 -- What the events of two lists count together, and what a network's own counts say of them.
-use Rattle.std.proofs.Common.{◌≡◌, ℕ, zero, suc, ◌+◌, ◌<◌, Bool, true, false, cond, eqb, ltb, ◌⊎◌, List, [], ◌∷◌, ◌++◌, map, get_or, Some, None, Ok, Err, Option, Result, sym, refl, ap, ◌∙◌, inl, inr, ⊎_elim, append_assoc, arith}
-use Rattle.std.proofs.lemmas.Bool.{cases_eq, cases_lt, eq-eqb, ne_eqb, ltb-true}
+use Rattle.std.proofs.Common.{◌≡◌, ℕ, ◌+◌, ◌<◌, Bool, true, false, cond, eqb, ltb, ◌⊎◌, List, [], ◌∷◌, ◌++◌, Some, None, Ok, Err, Option, Result, sym, refl, ap, ◌∙◌, inl, inr, append_assoc, arith}
+use Rattle.std.proofs.lemmas.Bool.{cases_eq, eq-eqb, ne_eqb, ltb-true}
 use Rattle.accounts.specs.Offers.{ready, bad_size, paid}
 use Rattle.arbiters.specs.declared.arbiter.Arbiter as arbiter
 use Rattle.clocks.specs.declared.clock.WindowClock as clock
-use Rattle.routes.specs.Crossings.{first_channel, last_channel}
-use Rattle.sources.specs.Lines.{Line, first_place, without_first, joined, turned_away, moved_on}
+use Rattle.sources.specs.Lines.{Line, without_first, joined, turned_away}
 use Rattle.sources.specs.declared.refusal.OfferRefusal.TheVariants.{PacketSize, WindowSpent}
 use Rattle.running.specs.Cycles.{Run, cycle_made, shifted_net, run_over, shifts_now, after_clock, grants_now, cycled}
-use Rattle.running.specs.Moves.{at_channel, gives_to, left_if, arrived_if, moved_line, moved}
-use Rattle.running.specs.Nets.{Net, no_line, line, flows}
+use Rattle.running.specs.Moves.{moved}
+use Rattle.running.specs.Nets.{Net, line, flows}
 use Rattle.running.specs.Offers.{from_source, offer_answer, with_line, offer_leaves}
 use Rattle.running.specs.declared.grant.Grant.{Grant}
 use Rattle.running.specs.declared.refusal.RunRefusal.{RunRefusal}
 use Rattle.running.specs.declared.refusal.RunRefusal.TheVariants.{NoSuchFlow}
+use Rattle.running.proofs.Answering.{offer_keeps}
 use Rattle.running.proofs.Keeping.{kept_field, new_field, other_field}
-use Rattle.running.proofs.Lines.{line_moved, line_none}
+use Rattle.running.proofs.Lines.{moved_keeps}
+use Rattle.running.proofs.Shifting.{kept_on}
 use Rattle.guarantee.specs.Calls.{Event, accepted, refused, cycled_once, not_made, offer_event, cycle_event, events_of, leaves, events, after}
 use Rattle.guarantee.specs.Counts.{accepted_by, shifts, deliveries}
 use Rattle.guarantee.proofs.Goods.{Step, offers, cycles, as_call, as_calls}
@@ -44,16 +45,12 @@ deliveries_append (cycled_once shifted flits ∷ es) fs =
 deliveries_append (not_made ∷ es) fs = deliveries_append es fs
 
 -- an offer shifts nothing
-offer_shifts : (j size : ℕ) (a : Result ℕ RunRefusal) → shifts (offer_event j size a ∷ []) ≡ 0
+pub offer_shifts : (j size : ℕ) (a : Result ℕ RunRefusal) → shifts (offer_event j size a ∷ []) ≡ 0
 offer_shifts j size (Ok f) = refl
 offer_shifts j size (Err e) = refl
 
-offer_head : (n : Net) (j : ℕ) (l : Line) (b : Bool) → (cond b (with_line n j l) n).head ≡ n.head
-offer_head n j l true = refl
-offer_head n j l false = refl
-
 pub offer_keeps_head : (n : Net) (j size : ℕ) → (offer_leaves n j size).head ≡ n.head
-offer_keeps_head n j size = offer_head n j _ (ltb j (flows n))
+offer_keeps_head n j size = offer_keeps (λ m. m.head) n j size (λ l. refl)
 
 clock_head : (n : Net) (b : Bool) → (cond b (shifted_net (cycle_made n)) (cycle_made n)).head ≡ n.head + cond b 1 0
 clock_head n true = refl
@@ -64,32 +61,11 @@ without_accepted : (l : Line) (o : Option ℕ) → (without_first l o).accepted 
 without_accepted l None = refl
 without_accepted l (Some k) = refl
 
-left_accepted : (b : Bool) (l : Line) → (left_if b l).accepted ≡ l.accepted
-left_accepted true l = without_accepted l (first_place l)
-left_accepted false l = refl
-
-arrived_accepted : (b : Bool) (l : Line) → (arrived_if b l).accepted ≡ l.accepted
-arrived_accepted true l = refl
-arrived_accepted false l = refl
-
-line_accepted : (gs : List (Option Grant)) (i : ℕ) (l : Line) → (moved_line gs i l).accepted ≡ l.accepted
-line_accepted gs i l =
-    arrived_accepted (gives_to (at_channel gs (last_channel l.route)) i) (left_if (gives_to (at_channel gs (first_channel l.route)) i) l)
-    ∙ left_accepted (gives_to (at_channel gs (first_channel l.route)) i) l
-
 moved_accepted : (n : Net) (gs : List (Option Grant)) (i : ℕ) → (line (moved n gs) i).accepted ≡ (line n i).accepted
-moved_accepted n gs i =
-    ⊎_elim (λ l. ap (λ (m : Line). m.accepted) (line_moved n gs i l) ∙ line_accepted gs i (line n i))
-    (λ l. ap (λ (m : Line). m.accepted) (line_none n gs i l))
-    (cases_lt i (flows n))
-
-shifted_accepted : (ls : List Line) (i : ℕ) → (get_or (map moved_on ls) i no_line).accepted ≡ (get_or ls i no_line).accepted
-shifted_accepted [] i = refl
-shifted_accepted (l ∷ ls) zero = refl
-shifted_accepted (l ∷ ls) (suc i) = shifted_accepted ls i
+moved_accepted = moved_keeps (λ l. l.accepted) without_accepted (λ l. refl)
 
 clock_accepted : (n : Net) (i : ℕ) (b : Bool) → (line (cond b (shifted_net (cycle_made n)) (cycle_made n)) i).accepted ≡ (line n i).accepted
-clock_accepted n i true = shifted_accepted n.lines i
+clock_accepted n i true = kept_on (λ l. l.accepted) (λ l. refl) n.lines i
 clock_accepted n i false = refl
 
 -- an accepted packet counts at its flow, and nowhere else
@@ -164,16 +140,3 @@ module _ {A C : Type 0} (arbiters : arbiter.Ghosts A) (clocks : clock.Ghosts C) 
       ≡ (line r.net i).accepted + accepted_by i (events_of arbiters clocks r (as_call s))
   step_counts r (offers j size) i = offer_counts r.net j size i
   step_counts r cycles i = cycle_counts r i (run_over r.net)
-
-  -- a flow's account of accepted flits is what the events count
-  pub account_counts : (ss : List Step) (r : Run A C) (i : ℕ) →
-      (line (after arbiters clocks r (as_calls ss)).net i).accepted
-      ≡ (line r.net i).accepted + accepted_by i (events arbiters clocks r (as_calls ss))
-  account_counts [] r i = omega arith
-  account_counts (s ∷ ss) r i =
-      omega (
-        arith,
-        account_counts ss (leaves arbiters clocks r (as_call s)) i,
-        step_counts r s i,
-        accepted_append i (events_of arbiters clocks r (as_call s)) (events arbiters clocks (leaves arbiters clocks r (as_call s)) (as_calls ss)),
-      )

@@ -1,39 +1,39 @@
 -- Flits held in an open frame were accepted into it, and so the crossings that they still need are bounded.
 use Rattle.std.proofs.Common.{◌≡◌, ℕ, zero, suc, ◌+◌, ◌-◌, ◌*◌, ◌<◌, ◌≤◌, Bool, true, false, cond, not, ◌&&◌, eqb, ltb, leb, ◌≢◌, ◌⊎◌, List, [], ◌∷◌, ◌++◌, length, get_or, take, set, is_some, Some, None, Ok, Err, Option, sym, refl, ap, ◌∙◌, subst, inl, inr, ⊎_elim, append_assoc, append-nil, mul-le-mul_right, add-mul, one-mul, zero-mul, add-one, arith}
 use Rattle.std.proofs.lemmas.List.{get_or_past, get_or-set_same, get_or-set_other, get_or-map, length-map, length-set}
-use Rattle.std.proofs.lemmas.Bool.{and_parts, and_from, cases_eq, cases_lt, eqb-true, eq-eqb, ne_eqb, le-leb, lt-ltb, ltb-true, true≢false}
+use Rattle.std.proofs.lemmas.Bool.{and_parts, and_from, cases_eq, cases_lt, eq-eqb, ne_eqb, le-leb, lt-ltb, ltb-true}
 use Rattle.accounts.specs.Offers.{ready, bad_size, paid}
 use Rattle.accounts.proofs.Ready.{ready_is}
 use Rattle.arbiters.specs.declared.arbiter.Arbiter as arbiter
 use Rattle.clocks.specs.declared.clock.WindowClock as clock
 use Rattle.folds.specs.Sums.{total}
-use Rattle.folds.proofs.Sums.{total_le, total_balance, total_same, total_none, total_one, total_at, sumBy_total}
+use Rattle.folds.proofs.Sums.{total_le, total_same, total_none, total_at, sumBy_total}
 use Rattle.lanes.specs.declared.flits.Flit.{Flit}
 use Rattle.routes.specs.Channels.{well_formed}
-use Rattle.routes.specs.Crossings.{hop, crossing, next_channel, first_channel, last_channel}
+use Rattle.routes.specs.Crossings.{hop, crossing, next_channel}
 use Rattle.routes.specs.declared.crossing.Crossing.{Crossing}
-use Rattle.routes.proofs.Crossings.{crossing_known, before_known}
 use Rattle.plan.specs.Sheets.{flow_crossings, crossings}
 use Rattle.plan.specs.Tables.{Table}
 use Rattle.sources.specs.Lines as source
 use Rattle.sources.specs.Lines.{Line, first_place, without_first, joined, turned_away, offered, moved_on}
 use Rattle.sources.proofs.Opening.{none_waiting}
 use Rattle.sources.specs.declared.refusal.OfferRefusal.TheVariants.{PacketSize, WindowSpent}
-use Rattle.running.specs.Crossed.{without_front, with_flit, crossed_lane, crossed_line, crossed_by, crossed}
+use Rattle.running.specs.Crossed.{crossed_lane, crossed_line, crossed_by, crossed}
 use Rattle.running.specs.Cycles.{Run, opened_flow, started, shifted_net, cycle_made, run_over, shifts_now, after_clock, cycled}
 use Rattle.running.specs.Grants.{grants}
-use Rattle.running.specs.Moves.{at_channel, gives_to, ready_flit, no_flit, left_if, arrived_if, moved}
+use Rattle.running.specs.Moves.{at_channel, moved}
 use Rattle.running.specs.Nets.{Net, no_line, line, route, flows}
 use Rattle.running.specs.Offers.{from_source, with_line, offer_answer, offer_leaves}
-use Rattle.running.specs.Requests.{leads, is_at, stands}
+use Rattle.running.specs.Requests.{stands}
 use Rattle.running.specs.Sounds.{goes_on, all_go_on, Placed, of_flow}
 use Rattle.running.specs.Valid.{Valid, Routed}
 use Rattle.running.specs.declared.grant.Grant.{Grant}
 use Rattle.running.specs.declared.refusal.RunRefusal.TheVariants.{NoSuchFlow}
 use Rattle.running.proofs.Carrying.{Carried, line_carried}
+use Rattle.running.proofs.Fronts.{lane_elsewhere, flow_balance}
 use Rattle.running.proofs.Joining.{packet_place}
 use Rattle.running.proofs.Keeping.{kept_field, new_field, other_field}
-use Rattle.running.proofs.Lines.{line_moved}
+use Rattle.running.proofs.Lines.{moved_keeps}
 use Rattle.running.proofs.Ready.{requested}
 use Rattle.running.proofs.Same.{moved_none, moved_skip, moved_all}
 use Rattle.running.proofs.Shifting.{moved_place, moved_long as places-on}
@@ -41,6 +41,7 @@ use Rattle.running.proofs.Together.{moved_one, ready_one, ready_flow, ready_rout
 use Rattle.guarantee.specs.Calls.{Event, accepted, refused, cycled_once, not_made, offer_event, start, cycle_event, events_of, leaves, events, after}
 use Rattle.guarantee.specs.Counts.{accepted_in}
 use Rattle.guarantee.specs.Promises.{no_flow, flow, flow_count}
+use Rattle.guarantee.proofs.Events.{offer_keeps_head}
 use Rattle.guarantee.proofs.Goods.{Good, Step, offers, cycles, as_call, as_calls, after_hop, all_to_go, work}
 use Rattle.guarantee.proofs.Singles.{steps_events_append, steps_after_append}
 
@@ -64,49 +65,9 @@ total_turned f m (suc n) = omega (arith, total_turned f m n, total_both (λ j. t
 abbrev pub held_of : Net → ℕ → ℕ → ℕ
 held_of n i k = get_or (line n i).waiting k 0 + total (λ c. of_flow i (n.lane c k)) 320
 
--- a queue that loses its front and gets a flit at its back, both of flow j
+-- what a flit of flow j adds to those of flow i
 abbrev mine : ℕ → ℕ → ℕ
 mine j i = cond (eqb j i) 1 0
-
-fewer : (i j : ℕ) (q : List Flit) (b : Bool) → (b ≡ true → leads q j ≡ true) → of_flow i (without_front b q) + cond b (mine j i) 0 ≡ of_flow i q
-fewer i j [] true s = absurd (true≢false (sym (s refl)))
-fewer i j (y ∷ q) true s = omega (arith, ap (λ f. cond {A = ℕ} (eqb f i) 1 0) (eqb-true y.flow j (s refl)))
-fewer i j q false s = omega arith
-
-pushed : (i : ℕ) (q : List Flit) (y : Flit) → of_flow i (q ++ y ∷ []) ≡ of_flow i q + mine y.flow i
-pushed i [] y = omega arith
-pushed i (z ∷ q) y = omega (arith, pushed i q y)
-
-more : (i j : ℕ) (q : List Flit) (y : Flit) (p : Bool) → y.flow ≡ j → of_flow i (q ++ with_flit p y) ≡ of_flow i q + cond p (mine j i) 0
-more i j q y true f = pushed i q y ∙ ap (λ e. of_flow i q + mine e i) f
-more i j q y false f = omega (arith, ap (of_flow i) (append-nil q))
-
--- the flit that stands ready is one of its flow, and a buffer loses its front only where that stands ready
-lead_flow : (q : List Flit) (i : ℕ) → leads q i ≡ true → (get_or q 0 no_flit).flow ≡ i
-lead_flow [] i s = absurd (true≢false (sym s))
-lead_flow (y ∷ q) i s = eqb-true y.flow i s
-
-stood_flow : (n : Net) (k i : ℕ) (o : Option ℕ) → stands n k i o ≡ true → (ready_flit n k i o).flow ≡ i
-stood_flow n k i None s = refl
-stood_flow n k i (Some d) s = lead_flow (n.lane d k) i s
-
-stood_front : (n : Net) (k i : ℕ) (o : Option ℕ) → stands n k i o ≡ true → (d : ℕ) → is_at o d ≡ true → leads (n.lane d k) i ≡ true
-stood_front n k i None s d h = absurd (true≢false (sym h))
-stood_front n k i (Some b) s d h = ap (λ e. leads (n.lane e k) i) (sym (eqb-true b d h)) ∙ s
-
--- what the buffers of a frame lose and gain together
-and_cond : (t b : Bool) (e : ℕ) → cond (t && b) e 0 ≡ cond t (cond b e 0) 0
-and_cond true b e = refl
-and_cond false b e = refl
-
-gained : (e c : ℕ) (b : Bool) → c < 320 → total (λ d. cond (eqb d c && b) e 0) 320 ≡ cond b e 0
-gained e c b l =
-    total_same (λ d. cond (eqb d c && b) e 0) (λ d. cond (eqb d c) (cond b e 0) 0) 320 (λ d m. and_cond (eqb d c) b e)
-    ∙ total_one (cond b e 0) c 320 l
-
-lost : (e : ℕ) (o : Option ℕ) → ((d : ℕ) → o ≡ Some d → d < 320) → total (λ d. cond (is_at o d) e 0) 320 ≡ cond (is_some o) e 0
-lost e None w = total_none (λ d. 0) 320 (λ d l. refl)
-lost e (Some d) w = total_at e d 320 (w d refl)
 
 -- a flit leaves its source or a buffer, and goes to a buffer or is delivered: no more are held
 no_more : (b last : Bool) (w u w' u' : ℕ) → w' + cond (not b) 1 0 ≡ w → u' + cond b 1 0 ≡ u + cond (not last) 1 0 → w' + u' ≤ w + u
@@ -138,32 +99,10 @@ module _
   abbrev in_buffers : Net → ℕ → ℕ → ℕ
   in_buffers m i k = total (λ d. of_flow i (m.lane d k)) 320
 
-  lane_balance : (i d : ℕ) →
-      of_flow i (crossed_lane n c g x d g.ahead) + cond (is_at x.before d) (mine g.flow i) 0
-      ≡ of_flow i (n.lane d g.ahead) + cond (eqb d c && not x.last) (mine g.flow i) 0
-  lane_balance i d =
-      let flit = ready_flit n g.ahead g.flow x.before in
-      let kept = without_front (is_at x.before d) (n.lane d g.ahead) in
-      let here : crossed_lane n c g x d g.ahead ≡ kept ++ with_flit (eqb d c && not x.last) flit =
-      ap (λ b. cond b (kept ++ with_flit (eqb d c && not x.last) flit) (n.lane d g.ahead)) (eq-eqb g.ahead g.ahead refl) in
-      omega (
-        arith,
-        ap (of_flow i) here,
-        more i g.flow kept flit (eqb d c && not x.last) (stood_flow n g.ahead g.flow x.before stood),
-        fewer i g.flow (n.lane d g.ahead) (is_at x.before d) (stood_front n g.ahead g.flow x.before stood d),
-      )
-
   buffers_balance : (i : ℕ) →
       in_buffers after_it i g.ahead + cond (is_some x.before) (mine g.flow i) 0
       ≡ in_buffers n i g.ahead + cond (not x.last) (mine g.flow i) 0
-  buffers_balance i =
-      omega (
-        arith,
-        lost (mine g.flow i) x.before (before_known (route n g.flow) c x ok is),
-        gained (mine g.flow i) c (not x.last) (crossing_known (route n g.flow) c x ok is),
-        total_balance (λ d. of_flow i (crossed_lane n c g x d g.ahead)) (λ d. cond (is_at x.before d) (mine g.flow i) 0)
-            (λ d. of_flow i (n.lane d g.ahead)) (λ d. cond (eqb d c && not x.last) (mine g.flow i) 0) 320 (λ d l. lane_balance i d),
-      )
+  buffers_balance i = flow_balance n c g x ok is stood i
 
   -- in the granted frame
   here_by : (i : ℕ) → ((i ≡ g.flow) ⊎ (i ≡ g.flow → ⊥)) → held_of after_it i g.ahead ≤ held_of n i g.ahead
@@ -191,8 +130,7 @@ module _
 
       lies : in_buffers after_it i k ≡ in_buffers n i k
       lies = total_same (λ d. of_flow i (crossed_lane n c g x d k)) (λ d. of_flow i (n.lane d k)) 320
-          (λ d l. ap (λ b. of_flow i (cond b (without_front (is_at x.before d) (n.lane d k)
-          ++ with_flit (eqb d c && not x.last) (ready_flit n k g.flow x.before)) (n.lane d k))) (ne_eqb k g.ahead ne))
+          (λ d l. ap (of_flow i) (lane_elsewhere n c g x d k ne))
 
   after_held : (i k : ℕ) → held_of after_it i k ≤ held_of n i k
   after_held i k = ⊎_elim
@@ -212,16 +150,8 @@ without_long : (l : Line) (o : Option ℕ) → length (without_first l o).waitin
 without_long l None = refl
 without_long l (Some k) = length-set l.waiting k (get_or l.waiting k 0 - 1)
 
-both_long : (a b : Bool) (l : Line) → length (arrived_if a (left_if b l)).waiting ≡ length l.waiting
-both_long true true l = without_long l (first_place l)
-both_long true false l = refl
-both_long false true l = without_long l (first_place l)
-both_long false false l = refl
-
-moved_long : (n : Net) (gs : List (Option Grant)) (i : ℕ) → i < flows n → length (line (moved n gs) i).waiting ≡ length (line n i).waiting
-moved_long n gs i l =
-    ap (λ (m : Line). length m.waiting) (line_moved n gs i l)
-    ∙ both_long (gives_to (at_channel gs (last_channel (route n i))) i) (gives_to (at_channel gs (first_channel (route n i))) i) (line n i)
+moved_long : (n : Net) (gs : List (Option Grant)) (i : ℕ) → length (line (moved n gs) i).waiting ≡ length (line n i).waiting
+moved_long = moved_keeps (λ l. length l.waiting) without_long (λ l. refl)
 
 -- the granted flits move, channel by channel: no flow has more flits in any frame
 module _ (n : Net) (gs : List (Option Grant)) (lined : Lined n) (valid : Valid n gs) where
@@ -235,7 +165,7 @@ module _ (n : Net) (gs : List (Option Grant)) (lined : Lined n) (valid : Valid n
       let asks = requested (moved n (take c gs)) c g.ahead g.flow (ready_one n gs routed valid c g e) in
       subst (λ m. held_of m i k ≤ held_of (moved n (take c gs)) i k) (sym (moved_one n gs routed valid c g e))
       (crossed_held_of (moved n (take c gs)) c g asks.0 (ready_flow n gs routed valid c g e)
-      (moved_long n (take c gs) g.flow low ∙ (lined g.flow low).0) (ready_route n gs routed valid c g e) asks.1 asks.2 i k)
+      (moved_long n (take c gs) g.flow ∙ (lined g.flow low).0) (ready_route n gs routed valid c g e) asks.1 asks.2 i k)
 
   turns : (c i k : ℕ) → held_of (moved n (take c gs)) i k ≤ held_of n i k
   turns zero i k = omega (arith, ap (λ m. held_of m i k) (moved_none n))
@@ -349,13 +279,6 @@ module _ (t : Table) (n : Net) (ok : Good t n) (j size i k : ℕ) where
       ≤ held_of n i k + accepted_in i (n.head + k) (n.head + k + 1) (offer_event j size (offer_answer n j size) ∷ [])
   offer_held_of = offer_by (ltb j (flows n)) refl
 
-pub offer_head : (n : Net) (j size : ℕ) → (offer_leaves n j size).head ≡ n.head
-offer_head n j size = go (ltb j (flows n))
-  where
-    go : (b : Bool) → (cond b (with_line n j (offered (line n j) size)) n).head ≡ n.head
-    go true = refl
-    go false = refl
-
 -- a flit in a buffer still needs at most as many crossings as its route has hops
 after_most : (cs : List ℕ) (o : Option ℕ) → after_hop cs o ≤ length cs
 after_most cs None = omega arith
@@ -464,7 +387,7 @@ module _ {A C : Type 0} (arbiters : arbiter.Ghosts A) (clocks : clock.Ghosts C) 
         Owed t (offer_leaves n j size) (es ++ offer_event j size (offer_answer n j size) ∷ [])
     offer_owed n ok j size es owed i k l =
         subst (λ h. held_of (offer_leaves n j size) i k ≤ accepted_in i (h + k) (h + k + 1) (es ++ offer_event j size (offer_answer n j size) ∷ []))
-        (sym (offer_head n j size))
+        (sym (offer_keeps_head n j size))
         (omega (
           arith,
           owed i k l,

@@ -137,22 +137,22 @@ seen_refusing i (e ∷ es) (inr h) = refusing_on (seen_of i e) (seen i es) (seen
 
 -- what is seen as a shift is a cycle with a shift
 refused_no_shift : (b : Bool) (refusal : RunRefusal) → cond b (seen_refusal refusal) None ≡ Some account.shift_made → ⊥
-refused_no_shift false refusal h = let z : ◌≡◌ {A = ℕ} 0 1 = cc in omega arith
-refused_no_shift true NoSuchFlow h = let z : ◌≡◌ {A = ℕ} 0 1 = cc in omega arith
-refused_no_shift true PacketSize h = let z : ◌≡◌ {A = ℕ} 0 1 = cc in omega arith
-refused_no_shift true WindowSpent h = let z : ◌≡◌ {A = ℕ} 0 1 = cc in omega arith
-refused_no_shift true RunOver h = let z : ◌≡◌ {A = ℕ} 0 1 = cc in omega arith
+refused_no_shift false refusal h = absurd cc
+refused_no_shift true NoSuchFlow h = absurd cc
+refused_no_shift true PacketSize h = absurd cc
+refused_no_shift true WindowSpent h = absurd cc
+refused_no_shift true RunOver h = absurd cc
 
 accepted_no_shift : (b : Bool) (size frame : ℕ) → cond b (Some (account.accepted size frame)) None ≡ Some account.shift_made → ⊥
-accepted_no_shift false size frame h = let z : ◌≡◌ {A = ℕ} 0 1 = cc in omega arith
-accepted_no_shift true size frame h = let z : ◌≡◌ {A = ℕ} 0 1 = cc in omega arith
+accepted_no_shift false size frame h = absurd cc
+accepted_no_shift true size frame h = absurd cc
 
 shift_from : (i : ℕ) (e : Event) → seen_of i e ≡ Some account.shift_made → (xs : List Flit) × (e ≡ cycled_once true xs)
 shift_from i (accepted j size frame) h = absurd (accepted_no_shift (eqb j i) size frame h)
 shift_from i (refused j refusal) h = absurd (refused_no_shift (eqb j i) refusal h)
 shift_from i (cycled_once true flits) h = (flits, refl)
-shift_from i (cycled_once false flits) h = let z : ◌≡◌ {A = ℕ} 0 1 = cc in absurd (omega arith)
-shift_from i not_made h = let z : ◌≡◌ {A = ℕ} 0 1 = cc in absurd (omega arith)
+shift_from i (cycled_once false flits) h = absurd cc
+shift_from i not_made h = absurd cc
 
 -- where the account sees a shift, the events part at a cycle with a shift
 pub record Parted (i : ℕ) (es : List Event) (before later : List account.Event) : Type 0 where
@@ -179,8 +179,8 @@ part_past i e es before later o s p = record {
 }
 
 no_shift_in : (before later : List account.Event) → [] ≡ before ++ (account.shift_made ∷ later) → ⊥
-no_shift_in [] later h = let z : ◌≡◌ {A = ℕ} 0 1 = cc in omega arith
-no_shift_in (x ∷ before) later h = let z : ◌≡◌ {A = ℕ} 0 1 = cc in omega arith
+no_shift_in [] later h = absurd cc
+no_shift_in (x ∷ before) later h = absurd cc
 
 part_by : (i : ℕ) (e : Event) (es : List Event) (before later : List account.Event) (o : Option account.Event) → seen_of i e ≡ o →
     ((earlier : List account.Event) → seen i es ≡ earlier ++ (account.shift_made ∷ later) → Parted i es earlier later) →

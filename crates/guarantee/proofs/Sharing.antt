@@ -22,10 +22,10 @@ use Rattle.lanes.specs.declared.flits.Flit.{Flit}
 use Rattle.plan.proofs.Ranges.{window_range}
 use Rattle.plan.specs.Tables.{Table, slots_on, load}
 use Rattle.routes.specs.Channels.{crosses}
-use Rattle.routes.specs.Crossings.{first_channel, last_channel}
-use Rattle.running.proofs.Lines.{moved_flows, line_moved}
+use Rattle.running.proofs.Answering.{offer_keeps}
+use Rattle.running.proofs.Lines.{moved_flows, moved_keeps}
 use Rattle.running.specs.Cycles.{Run, opened_flow, started, cycle_made, shifted_net, run_over, shifts_now, after_clock, grants_now, delivered_now, cycled}
-use Rattle.running.specs.Moves.{at_channel, gives_to, left_if, arrived_if, moved_line, moved}
+use Rattle.running.specs.Moves.{moved}
 use Rattle.running.specs.Nets.{Net, no_line, flows, line}
 use Rattle.running.specs.Offers.{from_source, offer_answer, with_line, offer_leaves}
 use Rattle.running.specs.declared.grant.Grant.{Grant}
@@ -106,32 +106,15 @@ offers_saw n i j size = go (ltb j (flows n)) refl
 
 -- and leaves as many flows
 offers_flows : (n : Net) (j size : ℕ) → flows (offer_leaves n j size) ≡ flows n
-offers_flows n j size = go (ltb j (flows n))
-  where
-    go : (b : Bool) → flows (cond b (with_line n j (source.offered (line n j) size)) n) ≡ flows n
-    go true = length-set n.lines j (source.offered (line n j) size)
-    go false = refl
+offers_flows n j size = offer_keeps flows n j size (λ l. length-set n.lines j l)
 
 -- moves keep the accounts
-arrived_ledger : (b : Bool) (l : source.Line) → (arrived_if b l).ledger ≡ l.ledger
-arrived_ledger true l = refl
-arrived_ledger false l = refl
-
 without_ledger : (l : source.Line) (o : Option ℕ) → (source.without_first l o).ledger ≡ l.ledger
 without_ledger l None = refl
 without_ledger l (Some k) = refl
 
-left_ledger : (b : Bool) (l : source.Line) → (left_if b l).ledger ≡ l.ledger
-left_ledger true l = without_ledger l (source.first_place l)
-left_ledger false l = refl
-
-pub line_ledger : (gs : List (Option Grant)) (i : ℕ) (l : source.Line) → (moved_line gs i l).ledger ≡ l.ledger
-line_ledger gs i l =
-    arrived_ledger (gives_to (at_channel gs (last_channel l.route)) i) (left_if (gives_to (at_channel gs (first_channel l.route)) i) l)
-    ∙ left_ledger (gives_to (at_channel gs (first_channel l.route)) i) l
-
-pub moved_ledger : (n : Net) (gs : List (Option Grant)) (i : ℕ) → i < flows n → (line (moved n gs) i).ledger ≡ (line n i).ledger
-moved_ledger n gs i l = ap (λ (m : source.Line). m.ledger) (line_moved n gs i l) ∙ line_ledger gs i (line n i)
+moved_ledger : (n : Net) (gs : List (Option Grant)) (i : ℕ) → (line (moved n gs) i).ledger ≡ (line n i).ledger
+moved_ledger = moved_keeps (λ l. l.ledger) without_ledger (λ l. refl)
 
 -- a shift is one of every account
 pub shifted_ledger : (n : Net) (i : ℕ) → i < flows n → (line (shifted_net n) i).ledger ≡ shifted (line n i).ledger
@@ -155,8 +138,7 @@ module _ {A C : Type 0} (arbiters : arbiter.Ghosts A) (clocks : clock.Ghosts C) 
       Saw (line r.net i).ledger (seen_of i (cycle_event arbiters clocks r)) (line (cycled arbiters clocks r).net i).ledger
   cycled_saw r i l =
       subst (Saw (line r.net i).ledger (seen_of i (cycle_event arbiters clocks r)))
-      (sym (moved_ledger (after_clock arbiters clocks r) (grants_now arbiters clocks r) i
-      (omega (arith, clock_flows r.net (shifts_now arbiters clocks r)))))
+      (sym (moved_ledger (after_clock arbiters clocks r) (grants_now arbiters clocks r) i))
       (clock_saw r.net i (shifts_now arbiters clocks r) (delivered_now arbiters clocks r) l)
 
   -- any single step

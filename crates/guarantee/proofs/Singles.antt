@@ -1,5 +1,5 @@
 -- Every list of calls comes to the same as a list of single steps, of which each gives one event.
-use Rattle.std.proofs.Common.{◌≡◌, ℕ, zero, suc, Bool, true, false, cond, ◌||◌, List, [], ◌∷◌, ◌++◌, replicate, sym, refl, ap, ◌∙◌, append_assoc, arith}
+use Rattle.std.proofs.Common.{◌≡◌, ℕ, zero, suc, Bool, true, false, cond, ◌||◌, List, [], ◌∷◌, ◌++◌, replicate, sym, refl, ap, ◌∙◌, append_assoc}
 use Rattle.std.proofs.lemmas.Bool.{or_parts}
 use Rattle.arbiters.specs.declared.arbiter.Arbiter as arbiter
 use Rattle.clocks.specs.declared.clock.WindowClock as clock
@@ -157,7 +157,7 @@ module _ {A C : Type 0} (arbiters : arbiter.Ghosts A) (clocks : clock.Ghosts C) 
       × (events arbiters clocks r (as_calls ss1) ≡ before)
       × (events arbiters clocks (after arbiters clocks r (as_calls ss1)) (as_calls ss2) ≡ later)
   split_events r ss [] later h = ([], ss, refl, refl, h)
-  split_events r [] (e ∷ before) later h = let z : ◌≡◌ {A = ℕ} 0 1 = cc in absurd (omega arith)
+  split_events r [] (e ∷ before) later h = absurd cc
   split_events r (s ∷ ss) (e ∷ before) later h =
       let both : step_event r s ∷ events arbiters clocks (leaves arbiters clocks r (as_call s)) (as_calls ss) ≡ e ∷ (before ++ later) =
       sym (step_events r s ss) ∙ h in

@@ -4,20 +4,14 @@ use Rattle.std.proofs.lemmas.List.{length_push, get_or_push, get_or_append_left}
 use Rattle.std.proofs.lemmas.Bool.{cases_lt}
 use Rattle.plan.proofs.Admitted.{Admitted, admitted_is, still_loaded}
 use Rattle.plan.proofs.Ranges.{within_parts}
-use Rattle.plan.specs.Reserving.{new_table, set_table, reserve_table, and_then, of_route, terms_checked, load_checked, admitted, joined, with_flow}
+use Rattle.plan.specs.Reserving.{new_table, set_table, reserve_table, admitted, joined, with_flow}
 use Rattle.plan.specs.Settings.{settings_fit}
 use Rattle.plan.specs.Tables.{Flow, Table}
 use Rattle.plan.specs.declared.refusal.PlanRefusal.{PlanRefusal}
 use Rattle.plan.specs.declared.setting.Settings.{Settings}
-use Rattle.routes.proofs.Routes.{passed_well_formed}
-use Rattle.routes.specs.Routes.{route_checked}
-use Rattle.routes.specs.declared.path.checks.RouteRefusal.{RouteRefusal}
 use Rattle.guarantee.specs.Calls.{PlanCall, set, reserve, plan_leaves, planned_from, planned}
 use Rattle.guarantee.specs.Promises.{no_flow, flow, flow_count}
 use Rattle.guarantee.proofs.Goods.{FlowOk, TableOk}
-
-never : {P : Type 0} → ◌≡◌ {A = ℕ} 0 1 → P
-never e = absurd (omega arith)
 
 -- a new plan, and one that is set
 emptied_ok : (s : Settings) → settings_fit s ≡ true → TableOk (record { settings = s; flows = [] })
@@ -30,13 +24,6 @@ set_ok t s ok = go (settings_fit s) refl
     go true e = emptied_ok s e
     go false e = ok
 
--- the route of an admitted reservation passed its checks
-route_passed : (f g : Flow) (a d : Result (Unit {0}) PlanRefusal) (b : Result (Unit {0}) RouteRefusal) →
-    Ok f ≡ and_then a (and_then (of_route b) (and_then d (Ok g))) → Ok tt ≡ b
-route_passed f g (Ok x) d (Ok y) h = refl
-route_passed f g (Ok x) d (Err e) h = never (cc)
-route_passed f g (Err e) d b h = never (cc)
-
 -- the table with one admitted flow more
 module _ (t : Table) (slots largest : ℕ) (route : List ℕ) (f : Flow) (h : Ok f ≡ admitted t slots largest route) (ok : TableOk t) where
   checked : Admitted t slots largest route f
@@ -46,7 +33,7 @@ module _ (t : Table) (slots largest : ℕ) (route : List ℕ) (f : Flow) (h : Ok
   flow_ok = subst (FlowOk t.settings.frame) (sym checked.is) (record {
     slots = within_parts 1 t.settings.frame slots checked.some_slots;
     largest = within_parts 1 64 largest checked.packet;
-    routed = passed_well_formed route (route_passed f _ (terms_checked t slots largest) (load_checked t slots route) (route_checked route) h);
+    routed = checked.routed;
   })
 
   each_ok : (i : ℕ) → i < flow_count (with_flow t f) → FlowOk t.settings.frame (flow (with_flow t f) i)

@@ -18,11 +18,12 @@ use Rattle.guarantee.specs.Calls.{Event, accepted, refused, cycled_once, not_mad
 use Rattle.guarantee.specs.Counts.{accepted_in, shifts}
 use Rattle.guarantee.specs.Counts as counts
 use Rattle.guarantee.specs.Promises.{flow, flow_count, longest_epoch}
+use Rattle.guarantee.proofs.Events.{shifts_append, offer_shifts}
 use Rattle.guarantee.proofs.Goods.{Good, Step, offers, cycles, as_call, as_calls, work}
 use Rattle.guarantee.proofs.Owing.{work_bound}
 use Rattle.guarantee.proofs.Singles.{steps_after_append}
 
--- the cycles and the shifts of two lists of events
+-- the cycles of two lists of events
 pub cycles_append : (es fs : List Event) → counts.cycles (es ++ fs) ≡ counts.cycles es + counts.cycles fs
 cycles_append [] fs = omega arith
 cycles_append (accepted j size frame ∷ es) fs = cycles_append es fs
@@ -30,21 +31,10 @@ cycles_append (refused j refusal ∷ es) fs = cycles_append es fs
 cycles_append (cycled_once shifted flits ∷ es) fs = omega (arith, cycles_append es fs)
 cycles_append (not_made ∷ es) fs = cycles_append es fs
 
-pub shifts_append : (es fs : List Event) → shifts (es ++ fs) ≡ shifts es + shifts fs
-shifts_append [] fs = omega arith
-shifts_append (accepted j size frame ∷ es) fs = shifts_append es fs
-shifts_append (refused j refusal ∷ es) fs = shifts_append es fs
-shifts_append (cycled_once shifted flits ∷ es) fs = omega (arith, shifts_append es fs)
-shifts_append (not_made ∷ es) fs = shifts_append es fs
-
 -- an offer is no cycle
 offer_cycles : (i size : ℕ) (answer : Result ℕ RunRefusal) → counts.cycles (offer_event i size answer ∷ []) ≡ 0
 offer_cycles i size (Ok frame) = refl
 offer_cycles i size (Err refusal) = refl
-
-offer_shifts : (i size : ℕ) (answer : Result ℕ RunRefusal) → shifts (offer_event i size answer ∷ []) ≡ 0
-offer_shifts i size (Ok frame) = refl
-offer_shifts i size (Err refusal) = refl
 
 module _ {A C : Type 0} (arbiters : arbiter.Ghosts A) (clocks : clock.Ghosts C) where
   -- at most so many cycles are made until the next shift: those that the clock has left once the head frame is empty, and before that

@@ -1,5 +1,5 @@
--- The head frame's work is 0 exactly where it is empty; what an offer, a shift and the count of a cycle leave of the work.
-use Rattle.std.proofs.Common.{◌≡◌, ℕ, zero, suc, ◌+◌, ◌-◌, ◌*◌, ◌<◌, ◌≤◌, Bool, true, false, cond, ltb, ◌≢◌, List, [], ◌∷◌, map, length, get_or, is_some, sym, refl, ap, ◌∙◌, mul-le-mul_left, zero-mul, mul-one, arith}
+-- The head frame's work is 0 exactly where it is empty; what an offer and a shift leave of the work.
+use Rattle.std.proofs.Common.{◌≡◌, ℕ, suc, ◌+◌, ◌-◌, ◌*◌, ◌<◌, ◌≤◌, Bool, true, false, cond, ltb, ◌≢◌, List, [], ◌∷◌, length, get_or, is_some, sym, refl, ap, ◌∙◌, mul-le-mul_left, zero-mul, mul-one, arith}
 use Rattle.std.proofs.lemmas.List.{length-map, length-set, get_or-map, get_or-set_other}
 use Rattle.std.proofs.lemmas.Bool.{and_parts, eq-eqb, eqb-true, ltb-true}
 use Rattle.accounts.specs.Ledgers.{Ledger, Limits}
@@ -11,13 +11,14 @@ use Rattle.plan.specs.Tables.{Table}
 use Rattle.routes.specs.Crossings.{next_channel}
 use Rattle.routes.proofs.Crossings.{well_formed_some}
 use Rattle.sources.specs.Lines.{Line, joined, turned_away, offered, moved_on}
-use Rattle.running.specs.Cycles.{head_empty, shifted_net, cycle_made}
+use Rattle.running.specs.Cycles.{head_empty, shifted_net}
 use Rattle.running.specs.Nets.{Net, no_line, line, route, flows}
 use Rattle.running.specs.Offers.{with_line, offer_leaves}
 use Rattle.running.specs.Sounds.{goes_on, all_go_on, waiting_in, buffered_in, Sound}
+use Rattle.running.proofs.Answering.{offered_route}
 use Rattle.running.proofs.Emptying.{head_empty_tells, no_head_waits, no_head_lies}
 use Rattle.running.proofs.Keeping.{kept_field}
-use Rattle.running.proofs.Shifting.{moved_place}
+use Rattle.running.proofs.Shifting.{kept_on, moved_place}
 use Rattle.guarantee.proofs.Draining.{source_work, buffer_work, work_alike}
 use Rattle.guarantee.proofs.Goods.{all_to_go, work, Good}
 use Rattle.guarantee.proofs.Hops.{some_to_go}
@@ -66,23 +67,11 @@ module _ (n : Net) (held : List ℕ) (ok : Sound n held) where
   pub work_empty : (work n 0 ≡ 0 → head_empty n ≡ true) × (head_empty n ≡ true → work n 0 ≡ 0)
   work_empty = (work_none_empty, empty_work_none)
 
--- the count of a cycle changes none
-pub counted_work : (n : Net) (k : ℕ) → work (cycle_made n) k ≡ work n k
-counted_work n k = work_alike (cycle_made n) n k k refl (λ i. refl) (λ i l. refl) (λ c. refl)
-
 -- a shift makes each open frame the one before
-shifted_line_at : (n : Net) (i : ℕ) → i < flows n → line (shifted_net n) i ≡ moved_on (line n i)
-shifted_line_at n i l = get_or-map moved_on n.lines i no_line no_line l
-
-kept_route : (ls : List Line) (j : ℕ) → (get_or (map moved_on ls) j no_line).route ≡ (get_or ls j no_line).route
-kept_route [] j = refl
-kept_route (l ∷ ls) zero = refl
-kept_route (l ∷ ls) (suc j) = kept_route ls j
-
 pub shift_work : (n : Net) (k : ℕ) → work (shifted_net n) k ≡ work n (suc k)
 shift_work n k =
-    work_alike (shifted_net n) n k (suc k) (length-map n.lines moved_on) (kept_route n.lines)
-    (λ i l. ap (λ m. get_or m.waiting k 0) (shifted_line_at n i l) ∙ moved_place (line n i).waiting k) (λ c. refl)
+    work_alike (shifted_net n) n k (suc k) (length-map n.lines moved_on) (kept_on (λ l. l.route) (λ l. refl) n.lines)
+    (λ i l. ap (λ m. get_or m.waiting k 0) (get_or-map moved_on n.lines i no_line no_line l) ∙ moved_place (line n i).waiting k) (λ c. refl)
 
 -- an offer adds to no head frame: a packet's frame is past it
 past_head : (l : Ledger) → Limits l → (ready l).frame - l.head ≡ 0 → ⊥
@@ -99,11 +88,6 @@ offered_head : (l : Line) (size : ℕ) (bad good : Bool) → Limits l.ledger →
 offered_head l size true good ok = refl
 offered_head l size false true ok = joined_head l size ok
 offered_head l size false false ok = refl
-
-offered_route : (l : Line) (size : ℕ) (bad good : Bool) → (cond bad l (cond good (joined l size) (turned_away l))).route ≡ l.route
-offered_route l size true good = refl
-offered_route l size false true = refl
-offered_route l size false false = refl
 
 module _ (n : Net) (i size : ℕ) where
   with_line_work : i < flows n → Limits (line n i).ledger → work (with_line n i (offered (line n i) size)) 0 ≡ work n 0

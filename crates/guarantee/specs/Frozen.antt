@@ -4,10 +4,9 @@ use Rattle.plan.specs.Tables.{Table}
 use Rattle.guarantee.specs.Promises.{flow, flow_count, share, longest_epoch, longest_delivery}
 use Rattle.guarantee.specs.declared.bounding.Bounds.{Bounds}
 
--- for a lag that clocks tell as it is, the bounds of the promise; no figure for a longer one
-abbrev pub figures_for : Table → ℕ → Bounds
-figures_for t lag =
-    cond (nat_le lag 4194304) (record { epoch = Some (longest_epoch t lag); delivery = Some (longest_delivery t lag) }) (record { epoch = None; delivery = None })
+-- for a lag that clocks tell as it is, the bounds of the promise; none for a longer one
+abbrev pub figures_for : Table → ℕ → Option Bounds
+figures_for t lag = cond (nat_le lag 4194304) (Some (record { epoch = longest_epoch t lag; delivery = longest_delivery t lag })) None
 
 -- flow i's share of n frames, where there is such a flow
 abbrev pub share_for : Table → ℕ → ℕ → Option ℕ

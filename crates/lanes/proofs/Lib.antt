@@ -1,3 +1,2 @@
-pub mod Queues
 pub mod Rings
 pub mod Held

@@ -1,17 +1,12 @@
 -- The lanes of all channels for all open frames, as a ring over the frames.
-use Rattle.std.specs.Prelude.{ℕ, suc, ◌+◌, ◌-◌, ◌*◌, ◌<◌, Bool, cond, ◌&&◌, List, [], ◌∷◌, ◌++◌, map, length, Some, None, Option, ◌==◌, nat_lt, slice_index_or}
-use Rattle.lanes.specs.Lanes.{queue_of}
-use Rattle.lanes.specs.declared.buffer.Lane.{Lane}
+use Rattle.std.specs.Prelude.{ℕ, suc, ◌+◌, ◌-◌, ◌*◌, ◌<◌, Bool, cond, ◌&&◌, List, [], ◌∷◌, ◌++◌, Some, None, Ok, Err, Option, Result, ◌==◌, nat_lt, slice_index_or}
+use Rattle.lists.specs.Lists.{has_room}
 use Rattle.lanes.specs.declared.buffers.Buffers.{Buffers}
 use Rattle.lanes.specs.declared.flits.Flit.{Flit}
 
 -- the flits that wait, by channel and by how far the frame is ahead of the head
 abbrev pub Queues : Type 0
 Queues = ℕ → ℕ → List Flit
-
--- the queues of lanes, one behind the other
-abbrev pub queues_of : List Lane → List (List Flit)
-queues_of ls = map queue_of ls
 
 -- the number of open frames
 abbrev pub frames_of : Buffers → ℕ
@@ -29,8 +24,9 @@ place turn window c k = c * 8 + ring turn window k
 abbrev pub queue_in : ℕ → ℕ → List (List Flit) → Queues
 queue_in turn window qs c k = cond (nat_lt k window) (slice_index_or qs (place turn window c k) []) []
 
+-- the queues that the buffers hold
 unfoldable pub lane_of : Buffers → Queues
-lane_of b = queue_in b.turn b.window (queues_of b.lanes)
+lane_of b = queue_in b.turn b.window b.lanes
 
 -- nothing waits
 abbrev pub empty_lanes : Queues
@@ -59,7 +55,11 @@ with_lane f c k q = λ d j. cond (d == c && j == k) q (f d j)
 
 -- the lane of channel c for frame k takes one flit more
 abbrev pub takes : Buffers → ℕ → ℕ → Bool
-takes b c k = nat_lt c 320 && (nat_lt k (frames_of b) && nat_lt (length (lane_of b c k)) 8)
+takes b c k = nat_lt c 320 && (nat_lt k (frames_of b) && has_room 8 (lane_of b c k))
+
+-- the flit is handed back where the lane takes none, and comes in behind the others where it takes one
+abbrev pub push_told : Buffers → ℕ → ℕ → Flit → Result (Unit {0}) Flit
+push_told b c k x = cond (takes b c k) (Ok tt) (Err x)
 
 abbrev pub after_push : Buffers → ℕ → ℕ → Flit → Queues
 after_push b c k x = cond (takes b c k) (with_lane (lane_of b) c k (lane_of b c k ++ x ∷ [])) (lane_of b)

@@ -4,14 +4,14 @@ use Rattle.std.proofs.lemmas.List.{length-replicate, drop-replicate, drop-set-lt
 use Rattle.std.specs.Prelude.{replicate}
 use Rattle.lists.specs.Blanks.{Filled}
 
-module _ {T : Type 0} (blank : T) (n : ℕ) where
-  -- an item comes into the first blank place
-  pub filled-set : (count : ℕ) (places : List T) (x : T) → Filled blank n count places → count < n → Filled blank n (count + 1) (set places count x)
-  filled-set count places x h room = record {
+module _ {T : Type 0} {blank : T} {n : ℕ} where
+  -- an item more comes into a place before the blanks or into the first blank one
+  pub filled-set : {count : ℕ} {places : List T} (at : ℕ) (x : T) → Filled blank n count places → at ≤ count → count < n → Filled blank n (count + 1) (set places at x)
+  filled-set {count} {places} at x h near room = record {
     few = omega (arith, room);
-    sized = length-set places count x ∙ h.sized;
+    sized = length-set places at x ∙ h.sized;
     blanks =
-        drop-set-lt (count + 1) places count x (omega arith)
+        drop-set-lt (count + 1) places at x (omega (arith, near))
         ∙ sym (drop-drop 1 count places)
         ∙ ap (drop 1) h.blanks
         ∙ drop-replicate 1 (n - count) blank
@@ -22,6 +22,6 @@ module _ {T : Type 0} (blank : T) (n : ℕ) where
   pub filled-front : (count : ℕ) (xs : List T) → length xs ≡ count → count ≤ n → Filled blank n count (xs ++ drop count (replicate n blank))
   filled-front count xs same few = record {
     few = few;
-    sized = length-append xs _ ∙ ap (λ k. length xs + k) (length-drop count (replicate n blank) ∙ ap (λ k. k - count) (length-replicate n blank)) ∙ omega (arith, same, few);
+    sized = simp (length-append, length-drop, length-replicate) (omega (arith, same, few));
     blanks = drop_at xs _ count same ∙ drop-replicate count n blank;
   }

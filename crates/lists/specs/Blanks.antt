@@ -12,9 +12,13 @@ pub record Filled {T : Type 0} (blank : T) (n count : ℕ) (places : List T) : T
   pub sized : length places ≡ n
   pub blanks : drop count places ≡ replicate (n - count) blank
 
--- the items taken from the places and filled up again are the places
-pub filled-take : {T : Type 0} (blank : T) (n count : ℕ) (places : List T) → Filled blank n count places → filled blank n (take count places) ≡ places
-filled-take blank n count places h =
-    ap (λ k. take count places ++ replicate (n - k) blank) (length-take-le count places (omega (arith, h.sized, h.few)))
-    ∙ ap (λ ys. take count places ++ ys) (sym h.blanks)
-    ∙ take-append-drop count places
+-- as many items are taken from the places as are counted, and filled up again they are the places
+module _ {T : Type 0} {blank : T} {n count : ℕ} {places : List T} (h : Filled blank n count places) where
+  pub length-take-filled : length (take count places) ≡ count
+  length-take-filled = length-take-le count places (omega (arith, h.sized, h.few))
+
+  pub filled-take : filled blank n (take count places) ≡ places
+  filled-take =
+      ap (λ k. take count places ++ replicate (n - k) blank) length-take-filled
+      ∙ ap (λ ys. take count places ++ ys) (sym h.blanks)
+      ∙ take-append-drop count places

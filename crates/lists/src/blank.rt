@@ -1,6 +1,7 @@
 ghost use Rattle.std.specs.Prelude.{◌≡◌};
 
 /// A value for the places of a list that hold no item.
+// Not `Default`, which tells what holds of its value and not which value it is.
 pub trait Blank: Copy {
     // the value
     ghost blank: { Self };

@@ -14,8 +14,8 @@ pub struct FixedList<T: Blank, const N: usize> {
 impl<T: Blank, const N: usize> Model for FixedList<T, N> {
     ghost use Rattle.std.specs.Prelude.{List, length, take};
     ghost use Rattle.std.specs.Coded.{coded_list};
-    ghost use Rattle.std.proofs.Common.{arith, length-take-le, ap₂};
-    ghost use Rattle.lists.specs.Blanks.{filled, Filled, filled-take};
+    ghost use Rattle.std.proofs.Common.{ap₂};
+    ghost use Rattle.lists.specs.Blanks.{filled, Filled, length-take-filled, filled-take};
 
     ghost Value = { List T };
 
@@ -27,9 +27,10 @@ impl<T: Blank, const N: usize> Model for FixedList<T, N> {
 
     ghost inverse = { λ xs. record { count = length xs; places = filled T.blank N xs } };
 
-    ghost inverse_ok = { λ l h. ap₂ (λ c ps. record { count = c; places = ps }) (length-take-le l.count l.places (omega (arith, h.few, h.sized))) (filled-take T.blank N l.count l.places h) };
+    ghost inverse_ok = { λ l h. ap₂ (λ c ps. record { count = c; places = ps }) (length-take-filled h) (filled-take h) };
 }
 
+// By hand: a derived clone would be as like its source as the clones of `T` are, and no more.
 impl<T: Blank, const N: usize> Clone for FixedList<T, N> {
     ghost is_clone = { λ x y. y ≡ x };
 
@@ -71,19 +72,20 @@ impl<T: Blank, const N: usize> FixedList<T, N> {
         ensures value { result ≡ length self.now }
         ensures within { result ≤ N }
     {
-        self.count
+        self.as_slice().len()
     }
 
     /// Whether there is no item.
     pub fn is_empty(&self) -> bool
         ensures { result ≡ (length self.now == 0) }
     {
-        self.count == 0
+        self.as_slice().is_empty()
     }
 
     /// The items, in order.
     pub fn as_slice(&self) -> &[T]
-        ensures { result.now ≡ self.now }
+        ensures items { result.now ≡ self.now }
+        ensures within { length self.now ≤ N }
     {
         &self.places[..self.count]
     }
@@ -92,11 +94,7 @@ impl<T: Blank, const N: usize> FixedList<T, N> {
     pub fn front(&self) -> Option<T>
         ensures { result ≡ first_of self.now }
     {
-        if self.count == 0 {
-            None
-        } else {
-            Some(self.places[0])
-        }
+        self.as_slice().first().copied()
     }
 
     /// Lets an item in behind the others; hands it back, with nothing changed, where all places are taken.
@@ -117,10 +115,7 @@ impl<T: Blank, const N: usize> FixedList<T, N> {
         ensures answer { result ≡ first_of self.old }
         ensures state { self.new ≡ rest_of self.old }
     {
-        if self.count == 0 {
-            return None;
-        }
-        let first = self.places[0];
+        let first = self.front()?;
         self.places[0] = T::blank();
         self.places.rotate_left(1);
         self.count -= 1;

@@ -1,6 +1,7 @@
 -- The numbers of the channels: each heading has numbers of its own, and in it each node has one.
-use Rattle.std.proofs.Common.{◌≡◌, ℕ, ◌+◌, ◌-◌, ◌*◌, ◌/◌, ◌%◌, ◌<◌, ◌≤◌, Bool, true, false, cond, ◌&&◌, ltb, Some, None, sym, refl, ap, ◌∙◌, subst, mul-le-mul, arith}
+use Rattle.std.proofs.Common.{◌≡◌, ℕ, ◌+◌, ◌-◌, ◌*◌, ◌/◌, ◌%◌, ◌<◌, ◌≤◌, true, cond, ◌&&◌, ltb, Some, None, sym, refl, ap, ◌∙◌, subst, mul-le-mul, arith}
 use lib.Arith.{digits_lt, digits_div, digits_mod}
+use Rattle.std.proofs.lemmas.Option.{cond_some}
 use Rattle.std.proofs.lemmas.Bool.{and_parts, and_from, ltb-true, lt-ltb, le-ltb, cond-true, cond-false}
 use Rattle.mesh.specs.Numbering.{at, inside, per_heading, leaving, leads, channel_of, Unambiguous}
 use Rattle.mesh.specs.declared.node.Node.{Node}
@@ -11,11 +12,6 @@ pub inside_parts : (k : ℕ) (a : Node) → inside k a ≡ true → (a.x < k) ×
 inside_parts k a e =
     let p = and_parts (ltb a.x k) (ltb a.y k) e in
     (ltb-true a.x k p.0, ltb-true a.y k p.1)
-
--- a channel that is there: its node is inside, its heading leads on, and this is its number
-some_parts : (b : Bool) (v c : ℕ) → cond b (Some v) None ≡ Some c → (b ≡ true) × (v ≡ c)
-some_parts true v c e = (refl, cc)
-some_parts false v c e = absurd (let z : ◌≡◌ {A = ℕ} 0 1 = cc in omega arith)
 
 -- what the heading asks of a node that it leads from
 abbrev pub Open : ℕ → Node → Heading → Type 0
@@ -86,13 +82,14 @@ node_is k a b FallingY o p e =
 node_is k a b Out o p e =
     let t = cells k a.y a.x b.y b.x o.0 p.0 (omega arith) in same_node a b t.1 t.0
 
+-- a channel that is there: its heading leads on from its node, and this is its number
 pub record There (k : ℕ) (a : Node) (h : Heading) (c : ℕ) : Type 0 where
   pub opens : Open k a h
   pub number : leaving k a h ≡ c
 
 pub there : (k : ℕ) (a : Node) (h : Heading) (c : ℕ) → channel_of k a h ≡ Some c → There k a h c
 there k a h c e =
-    let s = some_parts (inside k a && leads k a h) (leaving k a h) c e in
+    let s = cond_some (inside k a && leads k a h) (leaving k a h) c e in
     let p = and_parts (inside k a) (leads k a h) s.0 in
     record { opens = open_from k a h p.0 p.1; number = s.1 }
 

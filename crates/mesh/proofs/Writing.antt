@@ -1,6 +1,6 @@
 -- A walk that is written place by place into a lent list.
-use Rattle.std.proofs.Common.{◌≡◌, ℕ, ◌+◌, ◌-◌, ◌<◌, ◌≤◌, Bool, true, false, cond, ◌&&◌, leb, List, [], ◌∷◌, ◌++◌, length, take, drop, set, Ok, Err, sym, refl, ap, ◌∙◌, subst, arith}
-use Rattle.std.proofs.lemmas.List.{append-nil, append_assoc, take_at, take-append-drop, take_more_set, drop-set-lt, drop-drop}
+use Rattle.std.proofs.Common.{◌≡◌, ℕ, ◌+◌, ◌-◌, ◌<◌, ◌≤◌, Bool, true, false, cond, ◌&&◌, leb, List, [], ◌∷◌, ◌++◌, length, take, set, Ok, Err, sym, refl, ap, ◌∙◌, subst, arith}
+use Rattle.std.proofs.lemmas.List.{append-nil, append_assoc, take_all, take_at, take_more_set}
 use Rattle.std.proofs.lemmas.Bool.{and_parts, and_from, le-leb, lt-leb, cond-true, cond-false}
 use Rattle.mesh.specs.Numbering.{inside, leaving}
 use Rattle.mesh.specs.Routes.{route, hops, hops_answer, route_answer}
@@ -20,7 +20,7 @@ pub record Counted (k : ℕ) (a b : Node) (n : ℕ) : Type 0 where
 
 ok_parts : (t : Bool) (n m : ℕ) → Ok n ≡ cond t (Ok m) (Err OutOfRange) → (t ≡ true) × (n ≡ m)
 ok_parts true n m e = (refl, cc)
-ok_parts false n m e = absurd (let z : ◌≡◌ {A = ℕ} 0 1 = cc in omega arith)
+ok_parts false n m e = absurd cc
 
 pub counted : (k : ℕ) (a b : Node) (n : ℕ) → Ok n ≡ hops_answer k a b → Counted k a b n
 counted k a b n e =
@@ -42,14 +42,14 @@ long_enough k a b l n c p =
     let e : length (route k a b) ≡ n = length_route k a b ∙ sym c.many in
     sym (both_in k a b l n c ∙ cond-true (leb (length (route k a b)) l) _ _ (le-leb (length (route k a b)) l (omega arith)) ∙ ap Ok e)
 
--- one place is written: the next node is inside, what is written and the walk that is left give the whole walk, and the rest stays
+-- one place is written: the next node is inside, and what is written and the walk that is left give the whole walk
 pub next_inside : (k : ℕ) (a b next : Node) → next ≡ onward a b → inside k a ≡ true → inside k b ≡ true → inside k next ≡ true
 next_inside k a b next e i j =
     let p = step_in k a b (inside_parts k a i) (inside_parts k b j) in
     ap (inside k) e ∙ inside_from k (onward a b) p.0 p.1
 
 pub written_more : (k n i c : ℕ) (a b next : Node) (cs all : List ℕ) →
-    next ≡ onward a b → c ≡ leaving k a (towards a b) → i < n → n ≤ length cs → take i cs ++ walk k a b (n - i) ≡ all →
+    next ≡ onward a b → c ≡ leaving k a (towards a b) → i < n → length cs ≡ n → take i cs ++ walk k a b (n - i) ≡ all →
     take (i + 1) (set cs i c) ++ walk k next b (n - (i + 1)) ≡ all
 written_more k n i c a b next cs all p q l m e =
     let rest = walk k next b (n - (i + 1)) in
@@ -60,17 +60,17 @@ written_more k n i c a b next cs all p q l m e =
     ∙ sym (ap (λ t. take i cs ++ t) left)
     ∙ e
 
-pub rest_more : (i c : ℕ) (cs old : List ℕ) → drop i cs ≡ drop i old → drop (i + 1) (set cs i c) ≡ drop (i + 1) old
-rest_more i c cs old e = drop-set-lt (i + 1) cs i c (omega arith) ∙ sym (drop-drop 1 i cs) ∙ ap (drop 1) e ∙ drop-drop 1 i old
-
 -- all places are written
-pub written_all : (k n : ℕ) (a b : Node) (h : Node) (i : ℕ) (cs old : List ℕ) →
-    Counted k a b n → i ≡ n → take i cs ++ walk k h b (n - i) ≡ walk k a b n → drop i cs ≡ drop i old → cs ≡ route k a b ++ drop n old
-written_all k n a b h i cs old c p e d =
+pub written_all : (k n : ℕ) (a b h : Node) (i : ℕ) (cs : List ℕ) →
+    Counted k a b n → length cs ≡ n → n ≤ i → take i cs ++ walk k h b (n - i) ≡ walk k a b n → cs ≡ route k a b
+written_all k n a b h i cs c l m e =
     let none : n - i ≡ 0 = omega arith in
-    let front : take i cs ≡ route k a b =
-    sym (append-nil (take i cs)) ∙ sym (ap (λ m. take i cs ++ walk k h b m) none) ∙ e ∙ ap (walk k a b) c.many ∙ walk_is_route k a b in
-    sym (take-append-drop i cs) ∙ ap (λ t. t ++ drop i cs) front ∙ ap (λ t. route k a b ++ t) (d ∙ ap (λ m. drop m old) p)
+    sym (take_all i cs (omega arith))
+    ∙ sym (append-nil (take i cs))
+    ∙ sym (ap (λ j. take i cs ++ walk k h b j) none)
+    ∙ e
+    ∙ ap (walk k a b) c.many
+    ∙ walk_is_route k a b
 
 pub travelled : (k n : ℕ) (a b : Node) (cs rest : List ℕ) → k ≤ 8 → Counted k a b n → cs ≡ route k a b ++ rest → Travels k a b (take n cs)
 travelled k n a b cs rest few c e =

@@ -1,9 +1,7 @@
 -- What a mesh holds.
-use Rattle.std.specs.Prelude.{ℕ, Ok, Err, Result}
-use Rattle.mesh.specs.declared.refusal.MeshRefusal.{MeshRefusal}
-use Rattle.mesh.specs.declared.square.Mesh.{Mesh}
+use Rattle.std.specs.Prelude.{ℕ, ◌≤◌}
 
--- an answer with the side in the place of the mesh
-abbrev pub sided : Result Mesh MeshRefusal → Result ℕ MeshRefusal
-sided (Ok m) = Ok m.side
-sided (Err e) = Err e
+-- a side of 1 to 8
+pub record IsSide (k : ℕ) : Type 0 where
+  pub some : 1 ≤ k
+  pub few : k ≤ 8

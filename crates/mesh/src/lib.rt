@@ -7,4 +7,4 @@ pub mod square;
 
 pub use node::{Heading, Node};
 pub use refusal::MeshRefusal;
-pub use square::Mesh;
+pub use square::{LONGEST_SIDE, Mesh};

@@ -1,15 +1,16 @@
 ghost use Rattle.std.specs.Prelude.{◌≡◌, Some};
 ghost use Rattle.mesh.specs.Refusals.{refusal_number, refusal_text};
 
+use std::error::Error;
 use std::fmt;
 
 /// Why a mesh was not made, or a route not given.
 #[derive(Clone, Copy, Debug, PartialEq, Eq)]
 pub enum MeshRefusal {
     /// A side that is not 1 to 8, or a node outside the mesh.
-    OutOfRange,
+    OutOfRange = 15,
     /// The lent list is too short for the whole route.
-    ListTooShort,
+    ListTooShort = 18,
 }
 
 impl MeshRefusal {
@@ -17,10 +18,7 @@ impl MeshRefusal {
     pub fn number(self) -> u32
         ensures { result ≡ refusal_number self }
     {
-        match self {
-            MeshRefusal::OutOfRange => 15,
-            MeshRefusal::ListTooShort => 18,
-        }
+        self as u32
     }
 }
 
@@ -34,3 +32,5 @@ impl fmt::Display for MeshRefusal {
         }
     }
 }
+
+impl Error for MeshRefusal {}

@@ -13,24 +13,18 @@ use Rattle.running.specs.Moves.{ready_flit, left_if, no_flit}
 use Rattle.running.specs.Nets.{Net, flows, line, route, no_line}
 use Rattle.running.specs.Requests.{is_at, leads, stands}
 use Rattle.running.specs.declared.grant.Grant.{Grant}
+use Rattle.running.proofs.Fronts.{is_at_some}
 use Rattle.network.specs.Landings.{numbered, departing, departed, takes_flit, landed}
 use Rattle.lanes.specs.Rings.{with_lane}
 
 abbrev Lanes : Type 0
 Lanes = ℕ → ℕ → List Flit
 
--- one lane changed: read there, and elsewhere
-with_here : (f : Lanes) (c k : ℕ) (q : List Flit) → with_lane f c k q c k ≡ q
-with_here f c k q = ap (λ b. cond (b && eqb k k) q (f c k)) (eq-eqb c c refl) ∙ ap (λ b. cond b q (f c k)) (eq-eqb k k refl)
-
+-- one lane changed, and another read
 pub with_off : (f : Lanes) (c k : ℕ) (q : List Flit) (d j : ℕ) → eqb d c ≡ false → with_lane f c k q d j ≡ f d j
 with_off f c k q d j h = ap (λ b. cond (b && eqb j k) q (f d j)) h
 
 -- the flit that departs is the one that stands ready
-is_at_some : (o : Option ℕ) (k : ℕ) → is_at o k ≡ true → o ≡ Some k
-is_at_some None k h = absurd (true≢false (sym h))
-is_at_some (Some j) k h = ap Some (eqb-true j k h)
-
 leads_first : (q : List Flit) (i : ℕ) → leads q i ≡ true → first_of q ≡ Some (get_or q 0 no_flit)
 leads_first [] i h = absurd (true≢false (sym h))
 leads_first (x ∷ q) i h = refl
@@ -42,9 +36,6 @@ departs_ready n g (Some d) h = leads_first (n.lane d g.ahead) g.flow h
 
 -- the buffers once the flit has departed, and once it has landed
 module _ (f : Lanes) (c k : ℕ) (x : Flit) where
-  abbrev gone_by : Option ℕ → ℕ → ℕ → List Flit
-  gone_by before d j = cond (eqb j k) (without_front (is_at before d) (f d j) ++ []) (f d j)
-
   abbrev crossed_to : Option ℕ → Bool → ℕ → ℕ → List Flit
   crossed_to before last d j = cond (eqb j k) (without_front (is_at before d) (f d j) ++ with_flit (eqb d c && not last) x) (f d j)
 

@@ -1,9 +1,9 @@
-pub mod Rows
-pub mod Unused
+pub mod Lines
 pub mod Landing
 pub mod Advancing
-pub mod Walking
-pub mod Turning
 pub mod Offering
+pub mod Requesting
+pub mod Turning
+pub mod Unused
 pub mod Starting
-pub mod Holding
+pub mod Walking

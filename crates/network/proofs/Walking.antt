@@ -1,35 +1,13 @@
 -- The turns of the channels: one granted flit after the other moves, and together they have moved.
-use Rattle.std.proofs.Common.{◌≡◌, ℕ, ◌+◌, ◌<◌, ◌≤◌, Bool, true, false, cond, List, [], ◌∷◌, ◌++◌, length, get_or, take, Some, None, Option, sym, refl, ap, ◌∙◌, subst, add-one, arith}
+use Rattle.std.proofs.Common.{◌≡◌, ℕ, ◌+◌, ◌≤◌, List, ◌++◌, length, get_or, take, Some, None, Option, sym, refl, ap, ◌∙◌, subst, add-one, arith}
 use Rattle.std.proofs.lemmas.List.{length-append}
-use Rattle.lanes.specs.declared.flits.Flit.{Flit}
-use Rattle.routes.specs.Crossings.{crossing}
-use Rattle.routes.specs.declared.crossing.Crossing.{Crossing}
-use Rattle.running.specs.Moves.{at_channel, ready_flit, moved, arrive, arrives_by, arrivals}
-use Rattle.running.specs.Nets.{Net, route}
+use Rattle.running.specs.Moves.{at_channel, moved, arrive, arrivals}
+use Rattle.running.specs.Nets.{Net}
 use Rattle.running.specs.Valid.{Valid, Routed, InWindow}
 use Rattle.running.specs.declared.grant.Grant.{Grant}
 use Rattle.running.proofs.Same.{moved_none, moved_skip, moved_all}
 use Rattle.running.proofs.Together.{moved_one, ready_one, ready_flow, arrivals_one}
-use Rattle.running.specs.Requests.{requests}
-use Rattle.network.specs.Fabrics.{net_of, Sized}
-use Rattle.network.specs.Landings.{ends, carried, Granted}
-use Rattle.network.specs.declared.fabric.Fabric.{Fabric}
-use Rattle.network.proofs.Rows.{flow_count}
-
--- what is delivered counts one, or nothing
-last_one : (x : Flit) (l : Bool) → length (cond l (x ∷ []) []) ≡ cond {A = ℕ} l 1 0
-last_one x true = refl
-last_one x false = refl
-
-one_by : (n : Net) (g : Grant) (o : Option Crossing) (b : Bool) → b ≡ ends o → length (arrives_by n g o) ≡ cond b 1 0
-one_by n g None b e = sym (ap (λ t. cond {A = ℕ} t 1 0) e)
-one_by n g (Some x) b e = last_one (ready_flit n g.ahead g.flow x.before) x.last ∙ sym (ap (λ t. cond {A = ℕ} t 1 0) e)
-
-pub counts_one : (n : Net) (c : ℕ) (g : Grant) → true ≡ ends (crossing (route n g.flow) c) → 1 ≡ length (arrive n c (Some g))
-counts_one n c g h = sym (one_by n g (crossing (route n g.flow) c) true h)
-
-pub counts_none : (n : Net) (c : ℕ) (g : Grant) → false ≡ ends (crossing (route n g.flow) c) → 0 ≡ length (arrive n c (Some g))
-counts_none n c g h = sym (one_by n g (crossing (route n g.flow) c) false h)
+use Rattle.network.specs.Landings.{carried, Granted}
 
 -- the walk over the channels
 module _ (n : Net) (gs : List (Option Grant)) (routed : Routed n) (valid : Valid n gs) (window : InWindow n gs) where
@@ -67,10 +45,3 @@ pub all_moved : (n m : Net) (gs : List (Option Grant)) (c d : ℕ) → length gs
 all_moved n m gs c d long l u e f =
     let q : c ≡ 320 = omega arith in
     (f ∙ ap (λ k. length (arrivals n gs k)) q, e ∙ moved_all n gs c (omega arith))
-
--- what a fabric needs to let the granted flit advance
-pub advances : (f : Fabric) (c : ℕ) (o : Option Grant) (g : Grant) → Sized f → o ≡ Some g → Granted (net_of f) c o →
-    (g.flow < f.count) × (requests (net_of f) c g.ahead g.flow ≡ true) × (g.ahead < f.window)
-advances f c o g sized e h =
-    let q : Granted (net_of f) c (Some g) = subst (Granted (net_of f) c) e h in
-    (omega (arith, flow_count f sized, q.0), q.1, q.2)

@@ -1,6 +1,7 @@
-pub mod Fabrics
+pub mod Floors
 pub mod Landings
-pub mod Reaching
+pub mod Lines
+pub mod Marks
 pub mod Reading
 pub mod Starting
 pub mod Networks

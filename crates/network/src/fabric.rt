@@ -1,24 +1,19 @@
-use lanes::Buffers;
-use sources::Source;
+ghost use Rattle.network.specs.Floors.{net_of};
+ghost use Rattle.network.specs.Marks.{Marked};
+ghost use Rattle.running.specs.Sounds.{Sound};
+
+use crate::floor::Floor;
 
 pub mod holding;
 pub mod moving;
-pub mod offering;
-pub mod requesting;
-pub mod shifting;
-pub mod starting;
 
-/// What a network runs on, beside its arbiter and its clock: the flows at their sources, the buffers, and the
-/// counters that make its tests cheap.
-#[derive(Clone, Copy)]
+/// What a network runs on, beside its arbiter and its clock: the floor that its flits move on, and the counters that
+/// make its tests cheap.
+#[derive(Drop)]
 pub struct Fabric {
-    window: usize,
-    depth: usize,
-    head: u64,
-    cycles: u32,
-    count: usize,
-    sources: [Source; 64],
-    buffers: Buffers,
+    floor: Floor,
     held: [u64; 8],
     used: [bool; 320],
+    ghost marked: { Marked (net_of floor) used },
+    ghost sound: { Sound (net_of floor) held },
 }

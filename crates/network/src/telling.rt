@@ -1,5 +1,5 @@
 ghost use Rattle.std.specs.Prelude.{◌≡◌, false};
-ghost use Rattle.network.specs.Fabrics.{net_of, Kept};
+ghost use Rattle.network.specs.Floors.{net_of};
 ghost use Rattle.running.specs.Cycles.{head_empty, run_over, clocked};
 
 use crate::fabric::Fabric;
@@ -7,11 +7,10 @@ use clocks::WindowClock;
 
 /// Counts the cycle, tells the clock whether the head frame is empty, and shifts the window if it says so.
 pub(crate) fn tell_clock<C: WindowClock>(fabric: &mut Fabric, clock: &mut C) -> bool
-    requires { (Kept fabric.old) × (run_over (net_of fabric.old) ≡ false) }
-    ensures answer { result ≡ C.WindowClock.shifts clock.old (head_empty (net_of fabric.old)) }
-    ensures clock { clock.new ≡ C.WindowClock.told clock.old (head_empty (net_of fabric.old)) }
-    ensures state { net_of fabric.new ≡ clocked (net_of fabric.old) (C.WindowClock.shifts clock.old (head_empty (net_of fabric.old))) }
-    ensures kept { Kept fabric.new }
+    requires { run_over (net_of fabric.old.floor) ≡ false }
+    ensures answer { result ≡ C.WindowClock.shifts clock.old (head_empty (net_of fabric.old.floor)) }
+    ensures clock { clock.new ≡ C.WindowClock.told clock.old (head_empty (net_of fabric.old.floor)) }
+    ensures state { net_of fabric.new.floor ≡ clocked (net_of fabric.old.floor) (C.WindowClock.shifts clock.old (head_empty (net_of fabric.old.floor))) }
 {
     let empty = fabric.head_empty();
     fabric.count_cycle();

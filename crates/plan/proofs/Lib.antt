@@ -1,5 +1,4 @@
 pub mod Ranges
-pub mod Tables
 pub mod Reserving
 pub mod Admitted
 pub mod Figures

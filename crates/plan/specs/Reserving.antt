@@ -4,8 +4,7 @@ use Rattle.routes.specs.Channels.{within}
 use Rattle.plan.specs.Refusals.{as_plan_refusal}
 use Rattle.routes.specs.Routes.{route_checked}
 use Rattle.plan.specs.Settings.{settings_fit, new_settings}
-use Rattle.plan.specs.Tables.{Flow, Table, flow_of, load}
-use Rattle.plan.specs.declared.rows.Row.{Row}
+use Rattle.plan.specs.Tables.{Flow, Table, load}
 use Rattle.plan.specs.declared.setting.Settings as settings
 use Rattle.routes.specs.declared.path.checks.RouteRefusal.{RouteRefusal}
 use Rattle.plan.specs.declared.refusal.PlanRefusal.{PlanRefusal}
@@ -75,8 +74,3 @@ joined t (Err e) = t
 
 abbrev pub reserve_table : Table → ℕ → ℕ → List ℕ → Table
 reserve_table t slots largest route = joined t (admitted t slots largest route)
-
--- an answer with the flow in the place of its row
-abbrev pub flow_in : Result Row PlanRefusal → Result Flow PlanRefusal
-flow_in (Ok r) = Ok (flow_of r)
-flow_in (Err e) = Err e

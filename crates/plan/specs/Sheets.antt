@@ -1,14 +1,9 @@
 -- The figures of a table.
-use Rattle.std.specs.Prelude.{◌≡◌, ℕ, zero, suc, ◌+◌, ◌-◌, ◌*◌, ◌<◌, ◌≤◌, cond, List, [], map, length, take, Some, None, sum_by, Option, ◌==◌, nat_lt}
+use Rattle.std.specs.Prelude.{◌≡◌, ℕ, zero, suc, ◌+◌, ◌-◌, ◌*◌, ◌<◌, ◌≤◌, cond, List, [], map, length, Some, None, sum_by, Option, ◌==◌, nat_lt}
 use Rattle.plan.specs.Tables.{Flow, Table, load}
 use Rattle.plan.specs.declared.sheets.FlowFigures.{FlowFigures}
 use Rattle.plan.specs.declared.sheets.ChannelLoad.{ChannelLoad}
 use Rattle.plan.specs.declared.sheets.Sheet.{Sheet}
-
-pub record Figures : Type 0 where
-  pub crossings : ℕ
-  pub busiest : Option ChannelLoad
-  pub flows : List FlowFigures
 
 -- the crossings that the flits of a flow in one frame can need: R + L - 1 flits, each over every hop
 abbrev pub flow_crossings : Flow → ℕ
@@ -34,16 +29,12 @@ channel_load loads c = record { channel = c; load = loads c }
 abbrev pub busiest : List Flow → Option ChannelLoad
 busiest fs = cond (length fs == 0) None (Some (channel_load (load fs) (heaviest (load fs) 319)))
 
-abbrev pub sheet_figures : Table → Figures
+abbrev pub sheet_figures : Table → Sheet
 sheet_figures t = record {
   crossings = crossings t.flows;
   busiest = busiest t.flows;
   flows = map (flow_figures t.settings.window) t.flows;
 }
-
--- the figures that a sheet holds
-abbrev pub figures_in : Sheet → Figures
-figures_in s = record { crossings = s.crossings; busiest = s.busiest; flows = take s.count s.flows }
 
 -- no channel is more loaded than the one that is told, and those with lower numbers are less loaded
 abbrev pub MostLoaded : List Flow → Option ChannelLoad → Type 0

@@ -2,6 +2,7 @@ ghost use Rattle.std.specs.Prelude.{◌≡◌, Some};
 ghost use Rattle.plan.specs.Refusals.{plan_refusal_number, plan_refusal_text, as_plan_refusal};
 
 use routes::RouteRefusal;
+use std::error::Error;
 use std::fmt;
 
 /// Why a plan refused a call.
@@ -62,3 +63,5 @@ impl fmt::Display for PlanRefusal {
         }
     }
 }
+
+impl Error for PlanRefusal {}

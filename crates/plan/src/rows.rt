@@ -1,3 +1,6 @@
+ghost use Rattle.std.specs.Prelude.{[], ◌∷◌};
+
+use lists::Blank;
 use routes::Route;
 
 /// One flow of the slot table, as it was reserved.
@@ -9,4 +12,16 @@ pub struct Row {
     pub largest: u32,
     /// The channels it crosses.
     pub route: Route,
+}
+
+impl Blank for Row {
+    ghost blank = { record { slots = 0; largest = 0; route = 0 ∷ [] } };
+
+    fn blank() -> Row {
+        Row {
+            slots: 0,
+            largest: 0,
+            route: Route::blank(),
+        }
+    }
 }

@@ -28,7 +28,8 @@ impl Settings {
     pub fn fits(&self) -> bool
         ensures { result ≡ settings_fit self.now }
     {
-        (2 <= self.window && self.window <= 8)
-            && ((1 <= self.frame && self.frame <= 4096) && (1 <= self.depth && self.depth <= 8))
+        (2..=8).contains(&self.window)
+            && (1..=4096).contains(&self.frame)
+            && (1..=8).contains(&self.depth)
     }
 }

@@ -1,4 +1,5 @@
-ghost use Rattle.std.specs.Prelude.{◌≡◌, ◌≤◌, length};
+use crate::table::ROWS;
+use lists::{Blank, FixedList};
 
 pub mod lines;
 
@@ -9,6 +10,17 @@ pub struct FlowFigures {
     pub hops: u32,
     /// The slots that the flow has in all open frames together.
     pub inflight: u32,
+}
+
+impl Blank for FlowFigures {
+    ghost blank = { record { hops = 0; inflight = 0 } };
+
+    fn blank() -> FlowFigures {
+        FlowFigures {
+            hops: 0,
+            inflight: 0,
+        }
+    }
 }
 
 /// A channel and the slots reserved on it.
@@ -25,8 +37,6 @@ pub struct Sheet {
     pub crossings: u32,
     /// The most loaded channel, the lowest number among equals; none for an empty plan.
     pub busiest: Option<ChannelLoad>,
-    pub(crate) count: usize,
-    pub(crate) flows: [FlowFigures; 64],
-    ghost sized: { length flows ≡ 64 },
-    ghost few: { count ≤ 64 },
+    /// The figures of each flow, by its number.
+    pub(crate) flows: FixedList<FlowFigures, ROWS>,
 }

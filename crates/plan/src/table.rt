@@ -1,9 +1,7 @@
-ghost use Rattle.std.specs.Prelude.{◌≡◌, ℕ, ◌≤◌, true, length};
-ghost use Rattle.plan.specs.Settings.{settings_fit};
-ghost use Rattle.plan.specs.Tables.{flows_in, load, all_fit};
-
 use crate::rows::Row;
 use crate::setting::Settings;
+use lists::FixedList;
+use std::marker::Model;
 
 pub mod figures;
 pub mod reading;
@@ -13,15 +11,19 @@ pub mod reserving;
 pub const ROWS: usize = 64;
 
 /// A slot table in the making: settings in range, and flows whose slots fit every
-/// frame on every channel.
+/// frame on every channel. A contract sees the settings and the flows.
 #[derive(Drop)]
 pub struct Plan {
     settings: Settings,
-    count: usize,
-    rows: [Row; 64],
-    ghost sized: { length rows ≡ 64 },
-    ghost few: { count ≤ 64 },
-    ghost set: { settings_fit settings ≡ true },
-    ghost ranges: { all_fit settings.frame (flows_in count rows) ≡ true },
-    ghost loads: { (c : ℕ) → load (flows_in count rows) c ≤ settings.frame },
+    rows: FixedList<Row, ROWS>,
+}
+
+impl Model for Plan {
+    ghost use Rattle.plan.specs.Tables.{Table, SoundTable};
+
+    ghost Value = { Table };
+
+    ghost view = { λ p. record { settings = p.settings; flows = p.rows } };
+
+    ghost invariant = { λ p. SoundTable (record { settings = p.settings; flows = p.rows }) };
 }

@@ -2,8 +2,9 @@
 use Rattle.std.proofs.Common.{◌≡◌, ℕ, zero, suc, ◌+◌, ◌-◌, ◌<◌, ◌≤◌, Bool, true, false, cond, not, ◌&&◌, eqb, ltb, leb, List, [], ◌∷◌, length, get_or, is_some, Some, None, Option, sym, refl, ap, ◌∙◌, subst, ⊎_elim, arith}
 use Rattle.std.proofs.lemmas.Bool.{and_parts, both_ways, cases_eq, cases_lt, eqb-true, eqb-false, eq-eqb, ne_eqb, ltb-true, lt-ltb, le-ltb, leb-true}
 use Rattle.std.proofs.lemmas.Bool.Decides.{nat_tests}
-use Rattle.folds.proofs.Firsts.{first_passes}
-use Rattle.folds.proofs.Ups.{first_within, first_stops}
+use Rattle.std.proofs.lemmas.List.Quantifiers.{position-Some}
+use Rattle.std.proofs.lemmas.List.Sums.{position_or_len_is}
+use Rattle.std.specs.List.{position_or_len}
 use Rattle.routes.specs.Channels.{few_hops, known, rises, well_formed}
 use Rattle.routes.specs.Crossings.{hop, before_hop, crossing, crossing_at, after_hop, next_channel, first_channel, last_channel}
 use Rattle.routes.specs.declared.crossing.Crossing.{Crossing}
@@ -46,14 +47,14 @@ rises_at (c ∷ cs) (suc i) (suc j) e l m = rises_at cs i j (rises_rest c cs e) 
 
 -- what a search for a channel answers is a place where it stands, and it finds the place h
 pub hop_place : (cs : List ℕ) (c h : ℕ) → hop cs c ≡ Some h → (h < length cs) × (get_or cs h 0 ≡ c)
-hop_place cs c h e =
-    let r = first_within (λ h. eqb (get_or cs h 0) c) 0 (length cs) h e in
-    (omega arith, eqb-true (get_or cs h 0) c (first_passes (λ h. eqb (get_or cs h 0) c) 0 (length cs) h e))
+hop_place cs c h e = let p = position-Some (λ d. eqb d c) cs h 0 e in (p.0, eqb-true (get_or cs h 0) c p.1)
 
 pub hop_at : (cs : List ℕ) (h : ℕ) → rises cs ≡ true → h < length cs → hop cs (get_or cs h 0) ≡ Some h
 hop_at cs h e l =
-    first_stops (λ j. eqb (get_or cs j 0) (get_or cs h 0)) 0 (length cs) h (omega arith) (omega arith) (eq-eqb (get_or cs h 0) (get_or cs h 0) refl)
-    (λ j a b. ne_eqb (get_or cs j 0) (get_or cs h 0) (λ q. omega (arith, rises_at cs j h e b l)))
+    let c = get_or cs h 0 in
+    let first : position_or_len (λ d. eqb d c) cs ≡ h =
+    position_or_len_is (λ d. eqb d c) cs h 0 (omega arith) (λ j b. ne_eqb (get_or cs j 0) c (λ q. omega (arith, rises_at cs j h e b l))) (λ _. eq-eqb c c refl) in
+    ap (λ k. cond (ltb k (length cs)) (Some k) None) first ∙ ap (λ b. cond b (Some h) None) (lt-ltb h (length cs) l)
 
 -- how a hop crosses its channel
 abbrev pub crossing_of : List ℕ → ℕ → Crossing

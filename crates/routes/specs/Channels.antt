@@ -1,5 +1,6 @@
 -- Lists of channel numbers: what makes one a route, and whether it crosses a channel.
-use Rattle.std.specs.Prelude.{ℕ, Bool, true, false, ◌&&◌, ◌||◌, List, [], ◌∷◌, length, ◌==◌, nat_le, nat_lt}
+use Rattle.std.specs.Prelude.{ℕ, Bool, true, ◌&&◌, List, [], ◌∷◌, length, ◌==◌, nat_le, nat_lt}
+use Rattle.std.specs.List.{list_all, list_any}
 
 -- a number from `low` to `high`, both included
 abbrev pub within : ℕ → ℕ → ℕ → Bool
@@ -11,8 +12,7 @@ few_hops cs = within 1 16 (length cs)
 
 -- every channel is one of the 320
 abbrev pub known : List ℕ → Bool
-known [] = true
-known (c ∷ cs) = nat_lt c 320 && known cs
+known cs = list_all (λ c. nat_lt c 320) cs
 
 -- each number is above the one before it
 abbrev pub rises : List ℕ → Bool
@@ -26,5 +26,4 @@ well_formed cs = few_hops cs && (known cs && rises cs)
 
 -- whether the list has the channel
 abbrev pub crosses : List ℕ → ℕ → Bool
-crosses [] c = false
-crosses (d ∷ ds) c = d == c || crosses ds c
+crosses cs c = list_any (λ d. d == c) cs

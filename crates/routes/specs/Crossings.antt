@@ -1,11 +1,10 @@
 -- Where a channel stands on a route: at which hop, behind which channel, before which.
-use Rattle.std.specs.Prelude.{ℕ, ◌+◌, ◌-◌, ◌<◌, cond, List, length, Some, None, Option, ◌==◌, nat_eq, nat_lt, slice_index}
-use Rattle.folds.specs.Firsts.{first_up}
+use Rattle.std.specs.Prelude.{ℕ, ◌+◌, ◌-◌, ◌<◌, cond, List, length, Some, None, Option, ◌==◌, nat_lt, position, slice_index}
 use Rattle.routes.specs.declared.crossing.Crossing.{Crossing}
 
 -- the hop at which the route crosses the channel, counted from 0
 abbrev pub hop : List ℕ → ℕ → Option ℕ
-hop cs c = first_up (λ h. nat_eq (slice_index cs h) c) 0 (length cs)
+hop cs c = position (λ d. d == c) cs
 
 -- a hop that is told is one of the n
 abbrev pub Below : ℕ → Option ℕ → Type 0

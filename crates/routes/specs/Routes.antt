@@ -1,7 +1,6 @@
--- The checks of a route, in their order, and what a route holds.
-use Rattle.std.specs.Prelude.{ℕ, cond, List, take, Ok, Err, codes, Result}
+-- The checks of a route, in their order.
+use Rattle.std.specs.Prelude.{ℕ, cond, List, Ok, Err, codes, Result}
 use Rattle.routes.specs.Channels.{few_hops, known, rises}
-use Rattle.routes.specs.declared.path.Route.{Route}
 use Rattle.routes.specs.declared.path.checks.RouteRefusal.{RouteRefusal}
 use Rattle.routes.specs.declared.path.checks.RouteRefusal.TheVariants.{Length, UnknownChannel, NotRising}
 
@@ -28,12 +27,3 @@ with_channels cs (Err e) = Err e
 -- a list that passes is a route over its channels
 abbrev pub route_answer : List ℕ → Result (List ℕ) RouteRefusal
 route_answer cs = with_channels cs (route_checked cs)
-
--- the channels that a route holds, in the order of crossing
-abbrev pub channels_of : Route → List ℕ
-channels_of r = take r.hops r.channels
-
--- an answer with the channels in the place of the route
-abbrev pub routed : Result Route RouteRefusal → Result (List ℕ) RouteRefusal
-routed (Ok r) = Ok (channels_of r)
-routed (Err e) = Err e

@@ -1,5 +1,5 @@
 -- The turns of a bounded run.
-use Rattle.std.proofs.Common.{◌≡◌, ℕ, zero, suc, ◌+◌, ◌-◌, ◌<◌, ◌≤◌, Bool, true, false, cond, ◌||◌, eqb, sym, refl, ap, ◌∙◌, add-one, arith}
+use Rattle.std.proofs.Common.{◌≡◌, ℕ, zero, suc, ◌+◌, ◌-◌, ◌<◌, ◌≤◌, Bool, true, false, cond, ◌||◌, eqb, sym, refl, ap, ◌∙◌, subst, add-one, arith}
 use Rattle.std.proofs.lemmas.Bool.{eq-eqb, ne_eqb, eqb-true, eqb-false, or_left, or_parts}
 use Rattle.arbiters.specs.declared.arbiter.Arbiter as arbiter
 use Rattle.clocks.specs.declared.clock.WindowClock as clock
@@ -150,3 +150,6 @@ module _ {A C : Type 0} (arbiters : arbiter.Ghosts A) (clocks : clock.Ghosts C) 
           Ended arbiters clocks n (cycles_made arbiters clocks n r) (run_leaves arbiters clocks n r).net (cond b Empty (cond (eqb (cycles_made arbiters clocks n r) n) Spent Over))
       ended_by true h = h
       ended_by false h = over_by (eqb (cycles_made arbiters clocks n r) n) refl h
+
+  pub ran_so : (n : ℕ) (r : Run A C) (answer : ℕ × Ending) → answer ≡ run_answer arbiters clocks n r → Ran arbiters clocks n r answer
+  ran_so n r answer e = subst (Ran arbiters clocks n r) (sym e) (ran n r)

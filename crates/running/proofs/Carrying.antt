@@ -2,11 +2,12 @@
 use Rattle.std.proofs.Common.{◌≡◌, ℕ, ◌+◌, ◌-◌, ◌<◌, ◌≤◌, Bool, true, false, cond, not, ◌&&◌, eqb, ltb, ◌≢◌, ◌⊎◌, List, [], ◌∷◌, ◌++◌, length, get_or, set, is_some, Some, None, Option, sym, refl, ap, ◌∙◌, subst, inl, inr, ⊎_elim, append-nil, arith}
 use Rattle.std.proofs.lemmas.List.{get_or-set_same, get_or-set_other, length-set, length_push}
 use Rattle.std.proofs.lemmas.List.Sums.{sum_by-set}
-use Rattle.std.proofs.lemmas.Bool.{and_parts, and_from, cases_eq, eqb-true, eqb-false, eq-eqb, ne_eqb, ltb-true, lt-ltb, true≢false, both_ways, and_left, le-ltb, cases_lt, not-true}
+use Rattle.std.proofs.lemmas.Bool.{and_parts, and_from, cases_eq, eqb-true, eqb-false, eq-eqb, ne_eqb, ltb-true, lt-ltb, true≢false, both_ways, not-true}
 use Rattle.folds.specs.Sums.{total}
 use Rattle.folds.proofs.Firsts.{first_passes}
-use Rattle.folds.proofs.Sums.{total_balance, total_same, total_none, term_in_total, total_one, total_at}
+use Rattle.folds.proofs.Sums.{total_balance, total_same, term_in_total, total_one}
 use Rattle.folds.proofs.Ups.{first_within}
+use Rattle.routes.proofs.Crossings.{hop_place, before_known}
 use Rattle.lanes.specs.Lanes.{rest_of}
 use Rattle.lanes.specs.declared.flits.Flit.{Flit}
 use Rattle.routes.specs.Channels.{well_formed}
@@ -14,11 +15,12 @@ use Rattle.routes.specs.Crossings.{hop, crossing, crossing_at, next_channel, aft
 use Rattle.routes.specs.declared.crossing.Crossing.{Crossing}
 use Rattle.sources.specs.Lines.{Line, first_place, without_first, deliver_answer}
 use Rattle.running.specs.Crossed.{without_front, with_flit, crossed_lane, crossed_line, crossed_by, crossed}
-use Rattle.running.specs.Moves.{ready_flit, no_flit, left_if, arrived_if}
+use Rattle.running.specs.Moves.{ready_flit, left_if, arrived_if}
 use Rattle.running.specs.Nets.{Net, no_line, line, route, flows}
-use Rattle.running.specs.Requests.{leads, is_at, stands, has_space, requests_by, requests}
+use Rattle.running.specs.Requests.{leads, is_at, stands, has_space, requests}
 use Rattle.running.specs.Sounds.{Ranges, InStep, goes_on, all_go_on, Placed, Shallow, Bounded, waiting_in, buffered_in, Tallied, of_flow, under_way, Accounted, Sound}
 use Rattle.running.specs.declared.grant.Grant.{Grant}
+use Rattle.running.proofs.Fronts.{is_at_some, stood_flow, asks_both, lane_here, lane_elsewhere, length_balance, flow_balance}
 use Rattle.running.proofs.Keeping.{kept_field, new_field, other_field, all_alike, rest_goes_on, push_goes_on}
 
 -- a crossing that is not the last has a channel after it
@@ -29,7 +31,7 @@ is_last (Some x) = x.last
 after_by : (cs : List ℕ) (o : Option ℕ) (x : Crossing) → ((h : ℕ) → o ≡ Some h → h < length cs) → crossing_at cs o ≡ Some x → x.last ≡ false →
     is_some (after_hop cs o) ≡ true
 unfolding is_last
-after_by cs None x w e f = let z : ◌≡◌ {A = ℕ} 0 1 = cc in absurd (omega arith)
+after_by cs None x w e f = absurd cc
 after_by cs (Some h) x w e f =
     let l : h < length cs = w h refl in
     let ne : h + 1 ≡ length cs → ⊥ = eqb-false (h + 1) (length cs) (ap is_last e ∙ f) in
@@ -37,49 +39,9 @@ after_by cs (Some h) x w e f =
 
 pub goes_on_after : (cs : List ℕ) (c : ℕ) (x : Crossing) → crossing cs c ≡ Some x → x.last ≡ false → is_some (next_channel cs c) ≡ true
 goes_on_after cs c x e f =
-    after_by cs (hop cs c) x (λ h q. let r = first_within (λ k. eqb (get_or cs k 0) c) 0 (length cs) h q in omega arith) e f
+    after_by cs (hop cs c) x (λ h q. (hop_place cs c h q).0) e f
 
--- the flit that stands ready is one of its flow
-lead_flow : (q : List Flit) (i : ℕ) → leads q i ≡ true → (get_or q 0 no_flit).flow ≡ i
-lead_flow [] i s = absurd (true≢false (sym s))
-lead_flow (y ∷ q) i s = eqb-true y.flow i s
-
-ready_flow : (n : Net) (k i : ℕ) (b : Option ℕ) → stands n k i b ≡ true → (ready_flit n k i b).flow ≡ i
-ready_flow n k i None s = refl
-ready_flow n k i (Some d) s = lead_flow (n.lane d k) i s
-
--- a measure of queues to which each flit of flow i adds e
-module _
-    (i e : ℕ) (m : List Flit → ℕ) (front : (y : Flit) (q : List Flit) → y.flow ≡ i → m (y ∷ q) ≡ e + m q)
-    (back : (y : Flit) (q : List Flit) → y.flow ≡ i → m (q ++ y ∷ []) ≡ m q + e) where
-  -- a queue that loses its front and gets a flit at its back
-  queue_balance : (q : List Flit) (y : Flit) (b p : Bool) → (b ≡ true → leads q i ≡ true) → y.flow ≡ i →
-      m (without_front b q ++ with_flit p y) + cond b e 0 ≡ m q + cond p e 0
-  queue_balance [] y true p s f = absurd (true≢false (sym (s refl)))
-  queue_balance (z ∷ q) y true true s f = omega (arith, front z q (eqb-true z.flow i (s refl)), back y q f)
-  queue_balance (z ∷ q) y true false s f = omega (arith, front z q (eqb-true z.flow i (s refl)), ap m (append-nil q))
-  queue_balance q y false true s f = omega (arith, back y q f)
-  queue_balance q y false false s f = ap (λ r. m r + 0) (append-nil q)
-
--- what the measure of all queues of a frame loses and gains
-and_cond : (t b : Bool) (e : ℕ) → cond (t && b) e 0 ≡ cond t (cond b e 0) 0
-and_cond true b e = refl
-and_cond false b e = refl
-
-gained : (e c : ℕ) (b : Bool) → c < 320 → total (λ d. cond (eqb d c && b) e 0) 320 ≡ cond b e 0
-gained e c b l =
-    total_same (λ d. cond (eqb d c && b) e 0) (λ d. cond (eqb d c) (cond b e 0) 0) 320 (λ d m. and_cond (eqb d c) b e)
-    ∙ total_one (cond b e 0) c 320 l
-
-lost : (e : ℕ) (o : Option ℕ) → ((d : ℕ) → o ≡ Some d → d < 320) → total (λ d. cond (is_at o d) e 0) 320 ≡ cond (is_some o) e 0
-lost e None w = total_none (λ d. 0) 320 (λ d l. refl)
-lost e (Some d) w = total_at e d 320 (w d refl)
-
--- the flit that a buffer's front loses
-front_leads : (n : Net) (k i : ℕ) (o : Option ℕ) → stands n k i o ≡ true → (d : ℕ) → is_at o d ≡ true → leads (n.lane d k) i ≡ true
-front_leads n k i None s d h = absurd (true≢false (sym h))
-front_leads n k i (Some b) s d h = ap (λ e. leads (n.lane e k) i) (sym (eqb-true b d h)) ∙ s
-
+-- a buffer whose front is a flit has one
 leads_some : (q : List Flit) (i : ℕ) → leads q i ≡ true → 0 < length q
 leads_some [] i s = absurd (true≢false (sym s))
 leads_some (x ∷ q) i s = omega arith
@@ -93,10 +55,6 @@ pub record Carried (k : ℕ) (left last : Bool) (l m : Line) : Type 0 where
   pub elsewhere : (j : ℕ) → (j ≡ k → ⊥) → get_or m.waiting j 0 ≡ get_or l.waiting j 0
   pub sent : m.sent ≡ l.sent + cond left 1 0
   pub delivered : m.delivered ≡ l.delivered + cond last 1 0
-
-at_place : (o : Option ℕ) (k : ℕ) → is_at o k ≡ true → o ≡ Some k
-at_place None k h = absurd (true≢false (sym h))
-at_place (Some j) k h = ap Some (eqb-true j k h)
 
 left_first : (k : ℕ) (l : Line) → k < length l.waiting → 0 < get_or l.waiting k 0 → Carried k true false l (without_first l (Some k))
 left_first k l inside some = record {
@@ -112,7 +70,7 @@ left_first k l inside some = record {
 left_carried : (n : Net) (k i : ℕ) (o : Option ℕ) → stands n k i o ≡ true → length (line n i).waiting ≡ 8 →
     Carried k (not (is_some o)) false (line n i) (left_if (not (is_some o)) (line n i))
 left_carried n k i None s long =
-    let place : first_place (line n i) ≡ Some k = at_place (first_place (line n i)) k s in
+    let place : first_place (line n i) ≡ Some k = is_at_some (first_place (line n i)) k s in
     let inside = first_within (λ j. ltb 0 (get_or (line n i).waiting j 0)) 0 8 k place in
     let some = ltb-true 0 (get_or (line n i).waiting k 0) (first_passes (λ j. ltb 0 (get_or (line n i).waiting j 0)) 0 8 k place) in
     subst (λ o. Carried k true false (line n i) (without_first (line n i) o)) (sym place) (left_first k (line n i) (omega arith) some)
@@ -144,10 +102,6 @@ line_carried n k i x s long =
     arrived_carried k (not (is_some x.before)) x.last (line n i) (left_if (not (is_some x.before)) (line n i)) (left_carried n k i x.before s long)
 
 -- the flits of a flow in a queue
-of_flow_push : (j : ℕ) (q : List Flit) (y : Flit) → of_flow j (q ++ y ∷ []) ≡ of_flow j q + cond (eqb y.flow j) 1 0
-of_flow_push j [] y = omega arith
-of_flow_push j (z ∷ q) y = omega (arith, of_flow_push j q y)
-
 of_flow_leads : (q : List Flit) (i : ℕ) → leads q i ≡ true → 0 < of_flow i q
 of_flow_leads [] i s = absurd (true≢false (sym s))
 of_flow_leads (x ∷ q) i s = omega (arith, ap (λ b. cond {A = ℕ} b 1 0) s)
@@ -234,27 +188,18 @@ module _
   abbrev gets : ℕ → Bool
   gets d = eqb d c && not x.last
 
-  asked_both : (stands n g.ahead g.flow x.before && has_space n c g.ahead x.last) ≡ true
-  asked_both = sym (ap (requests_by n c g.ahead g.flow) is) ∙ asks
-
   stood : stands n g.ahead g.flow x.before ≡ true
-  stood = (and_parts (stands n g.ahead g.flow x.before) (has_space n c g.ahead x.last) asked_both).0
+  stood = (asks_both n c g.ahead g.flow x is asks).0
 
   spared : has_space n c g.ahead x.last ≡ true
-  spared = (and_parts (stands n g.ahead g.flow x.before) (has_space n c g.ahead x.last) asked_both).1
+  spared = (asks_both n c g.ahead g.flow x is asks).1
 
   -- the flit at the front of the channel before
   led : (d : ℕ) → x.before ≡ Some d → leads (n.lane d g.ahead) g.flow ≡ true
-  led d e = front_leads n g.ahead g.flow x.before stood d (ap (λ o. is_at o d) e ∙ eq-eqb d d refl)
+  led d e = ap (stands n g.ahead g.flow) (sym e) ∙ stood
 
-  before_known : (d : ℕ) → x.before ≡ Some d → d < 320
-  before_known d e = ⊎_elim (λ l. l)
-      (λ m. absurd (omega (
-        arith,
-        ok.4 d g.ahead (and_left (ltb d 320) (ltb g.ahead n.window) (le-ltb d 320 m)),
-        leads_some (n.lane d g.ahead) g.flow (led d e),
-      )))
-      (cases_lt d 320)
+  before_there : (d : ℕ) → x.before ≡ Some d → d < 320
+  before_there = before_known (route n g.flow) c x (ok.1 g.flow among).3 is
 
   in_eight : g.ahead < 8
   in_eight = omega (arith, ok.0)
@@ -262,48 +207,21 @@ module _
   carried : Carried g.ahead (not (is_some x.before)) x.last (line n g.flow) carried_line
   carried = line_carried n g.ahead g.flow x stood (ok.1 g.flow among).2
 
-  -- the buffers after it: the granted frame, and the others
-  lane_here : (d : ℕ) → crossed_lane n c g x d g.ahead
-      ≡ without_front (loses d) (n.lane d g.ahead) ++ with_flit (gets d) flit
-  lane_here d =
-      ap (λ b. cond b (without_front (loses d) (n.lane d g.ahead) ++ with_flit (gets d) flit) (n.lane d g.ahead))
-      (eq-eqb g.ahead g.ahead refl)
-
-  lane_elsewhere : (d k : ℕ) → (k ≡ g.ahead → ⊥) → crossed_lane n c g x d k ≡ n.lane d k
-  lane_elsewhere d k ne =
-      ap (λ b. cond b (without_front (loses d) (n.lane d k) ++ with_flit (gets d) (ready_flit n k g.flow x.before)) (n.lane d k))
-      (ne_eqb k g.ahead ne)
-
-  -- a measure of the granted frame's buffers
-  frame_balance : (e : ℕ) (m : List Flit → ℕ) → ((y : Flit) (q : List Flit) → y.flow ≡ g.flow → m (y ∷ q) ≡ e + m q) →
-      ((y : Flit) (q : List Flit) → y.flow ≡ g.flow → m (q ++ y ∷ []) ≡ m q + e) →
-      total (λ d. m (crossed_lane n c g x d g.ahead)) 320 + cond (is_some x.before) e 0 ≡ total (λ d. m (n.lane d g.ahead)) 320 + cond (not x.last) e 0
-  frame_balance e m front back =
-      omega (
-        arith,
-        lost e x.before before_known,
-        gained e c (not x.last) known,
-        total_balance (λ d. m (crossed_lane n c g x d g.ahead)) (λ d. cond (loses d) e 0) (λ d. m (n.lane d g.ahead)) (λ d. cond (gets d) e 0) 320
-            (λ d l. ap (λ q. m q + cond (loses d) e 0) (lane_here d)
-            ∙ queue_balance g.flow e m front back (n.lane d g.ahead) flit (loses d) (gets d)
-            (front_leads n g.ahead g.flow x.before stood d) (ready_flow n g.ahead g.flow x.before stood)),
-      )
-
+  -- the flits in all buffers
   buffered_here : buffered_in after g.ahead + cond (is_some x.before) 1 0 ≡ buffered_in n g.ahead + cond (not x.last) 1 0
-  buffered_here = frame_balance 1 length (λ y q f. omega arith) (λ y q f. length_push q y)
+  buffered_here = length_balance n c g x (ok.1 g.flow among).3 is stood
 
   buffered_elsewhere : (k : ℕ) → (k ≡ g.ahead → ⊥) → buffered_in after k ≡ buffered_in n k
-  buffered_elsewhere k ne = total_same (λ d. length (crossed_lane n c g x d k)) (λ d. length (n.lane d k)) 320 (λ d l. ap length (lane_elsewhere d k ne))
+  buffered_elsewhere k ne = total_same (λ d. length (crossed_lane n c g x d k)) (λ d. length (n.lane d k)) 320 (λ d l. ap length (lane_elsewhere n c g x d k ne))
 
-  -- the flits of each flow in all buffers
+  -- and those of each flow
   abbrev mine : ℕ → ℕ
   mine j = cond (eqb g.flow j) 1 0
 
   flow_here : (j : ℕ) →
       total (λ d. of_flow j (crossed_lane n c g x d g.ahead)) 320 + cond (is_some x.before) (mine j) 0
       ≡ total (λ d. of_flow j (n.lane d g.ahead)) 320 + cond (not x.last) (mine j) 0
-  flow_here j = frame_balance (mine j) (of_flow j) (λ y q f. ap (λ i. cond (eqb i j) 1 0 + of_flow j q) f)
-      (λ y q f. of_flow_push j q y ∙ ap (λ i. of_flow j q + cond (eqb i j) 1 0) f)
+  flow_here j = flow_balance n c g x (ok.1 g.flow among).3 is stood j
 
   flow_by : (j k : ℕ) → ((k ≡ g.ahead) ⊎ (k ≡ g.ahead → ⊥)) →
       total (λ d. of_flow j (crossed_lane n c g x d k)) 320 + cond (eqb k g.ahead) (cond (is_some x.before) (mine j) 0) 0
@@ -317,7 +235,7 @@ module _
       same : eqb g.ahead g.ahead ≡ true
       same = eq-eqb g.ahead g.ahead refl
   flow_by j k (inr ne) =
-      (λ i. total (λ d. of_flow j (lane_elsewhere d k ne i)) 320 + cond (ne_eqb k g.ahead ne i) (cond (is_some x.before) (mine j) 0) 0)
+      (λ i. total (λ d. of_flow j (lane_elsewhere n c g x d k ne i)) 320 + cond (ne_eqb k g.ahead ne i) (cond (is_some x.before) (mine j) 0) 0)
       ∙ ap (λ b. total (λ d. of_flow j (n.lane d k)) 320 + cond b (cond (not x.last) (mine j) 0) 0) (sym (ne_eqb k g.ahead ne))
 
   under_way_balance : (j : ℕ) → under_way after j + cond (is_some x.before) (mine j) 0 ≡ under_way n j + cond (not x.last) (mine j) 0
@@ -355,7 +273,7 @@ module _
   -- a flit that comes to channel c's buffer goes on from there
   comes_on : x.last ≡ false → goes_on n c flit ≡ true
   comes_on f =
-      ap (λ i. ltb i (flows n) && is_some (next_channel (route n i) c)) (ready_flow n g.ahead g.flow x.before stood)
+      ap (λ i. ltb i (flows n) && is_some (next_channel (route n i) c)) (stood_flow n g.ahead g.flow x.before stood)
       ∙ and_from (ltb g.flow (flows n)) (is_some (next_channel (route n g.flow) c)) (lt-ltb g.flow (flows n) among) (goes_on_after (route n g.flow) c x is f)
 
   -- what holds of a buffer after the crossing, by frames
@@ -363,8 +281,8 @@ module _
       (P g.ahead (without_front (loses d) (n.lane d g.ahead) ++ with_flit (gets d) flit)) →
       P k (n.lane d k) → P k (crossed_lane n c g x d k)
   in_frame P d k h f = ⊎_elim
-      (λ e. subst (λ i. P i (crossed_lane n c g x d i)) (sym e) (subst (P g.ahead) (sym (lane_here d)) h))
-      (λ ne. subst (P k) (sym (lane_elsewhere d k ne)) f)
+      (λ e. subst (λ i. P i (crossed_lane n c g x d i)) (sym e) (subst (P g.ahead) (sym (lane_here n c g x d)) h))
+      (λ ne. subst (P k) (sym (lane_elsewhere n c g x d k ne)) f)
       (cases_eq k g.ahead)
 
   placed : Placed after
@@ -471,7 +389,7 @@ module _
   held_by : (o : Option ℕ) → x.before ≡ o → 0 < waiting_in n g.ahead + buffered_in n g.ahead
   held_by None e = omega (arith, waiting_here, ap (λ o. cond {A = ℕ} (not (is_some o)) 1 0) e)
   held_by (Some d) e =
-      omega (arith, term_in_total (λ b. length (n.lane b g.ahead)) d 320 (before_known d e), leads_some (n.lane d g.ahead) g.flow (led d e))
+      omega (arith, term_in_total (λ b. length (n.lane b g.ahead)) d 320 (before_there d e), leads_some (n.lane d g.ahead) g.flow (led d e))
 
   pub crossed_held : 0 < get_or held g.ahead 0
   crossed_held = omega (arith, held_by x.before refl, ok.5.1 g.ahead)
@@ -482,7 +400,7 @@ module _
       omega (
         arith,
         term_in_total (λ k. total (λ b. of_flow g.flow (n.lane b k)) 320) g.ahead 8 in_eight,
-        term_in_total (λ b. of_flow g.flow (n.lane b g.ahead)) d 320 (before_known d e),
+        term_in_total (λ b. of_flow g.flow (n.lane b g.ahead)) d 320 (before_there d e),
         of_flow_leads (n.lane d g.ahead) g.flow (led d e),
       )
 

@@ -56,7 +56,7 @@ served_open n c k e = let w = first_within (asked n c) 0 n.window k e in omega a
 
 -- a grant tells the frame that is served and the flow that was chosen
 in_by : (k : ℕ) (o : Option ℕ) (g : Grant) → granted_in k o ≡ Some g → (k ≡ g.ahead) × (o ≡ Some g.flow)
-in_by k None g e = let z : ◌≡◌ {A = ℕ} 0 1 = cc in absurd (omega arith)
+in_by k None g e = absurd cc
 in_by k (Some i) g e =
     let is : record { ahead = k; flow = i } ≡ g = cc in
     (ap (λ (h : Grant). h.ahead) is, ap (λ (h : Grant). Some h.flow) is)
@@ -67,7 +67,7 @@ module _ {A : Type 0} (m : arbiter.Ghosts A) (n : Net) (a : A) where
 
   grant_by : (c : ℕ) (o : Option ℕ) (g : Grant) → grant_in m n (held c) c o ≡ Some g →
       (o ≡ Some g.ahead) × (m.choice (held c) c (requesters n c g.ahead) ≡ Some g.flow)
-  grant_by c None g e = let z : ◌≡◌ {A = ℕ} 0 1 = cc in absurd (omega arith)
+  grant_by c None g e = absurd cc
   grant_by c (Some k) g e =
       let p = in_by k (m.choice (held c) c (requesters n c k)) g e in
       (ap Some p.0, ap (λ (j : ℕ). m.choice (held c) c (requesters n c j)) (sym p.0) ∙ p.1)
@@ -79,8 +79,7 @@ module _ {A : Type 0} (m : arbiter.Ghosts A) (n : Net) (a : A) where
   low_by : (c : ℕ) (g : Grant) → at_channel (grants m n a) c ≡ Some g → 320 ≤ c → ⊥
   low_by c g e l =
       let none : at_channel (grants m n a) c ≡ None = getD_up_past (λ d. grant_at m n (arbiter_at m n a d) d) 320 c None l in
-      let z : ◌≡◌ {A = ℕ} 0 1 = cc in
-      omega arith
+      cc
 
   pub grants_low : (c : ℕ) (g : Grant) → at_channel (grants m n a) c ≡ Some g → c < 320
   grants_low c g e = ⊎_elim (λ l. l) (λ l. absurd (low_by c g e l)) (cases_lt c 320)
@@ -119,10 +118,6 @@ module _ {A : Type 0} (m : arbiter.Ghosts A) (n : Net) (a : A) where
       let some = chooses (held c) c (requesters n c k) r.0 l (requests_member n c k r.0 (omega (arith, r.1)) r.2) in
       let q = given_by k (m.choice (held c) c (requesters n c k)) some in
       (q.0, grants_at c l ∙ ap (grant_in m n (held c) c) e ∙ q.1, q.2)
-
-  -- where no frame is served, nothing is granted
-  pub unserved_none : (c : ℕ) → c < 320 → served n c ≡ None → at_channel (grants m n a) c ≡ None
-  unserved_none c l e = grants_at c l ∙ ap (grant_in m n (held c) c) e
 
   pub grants_length : length (grants m n a) ≡ 320
   grants_length = length_up (λ d. grant_at m n (arbiter_at m n a d) d) 0 320

@@ -39,6 +39,3 @@ module _ (n : Net) (held : List ℕ) (ok : Sound n held) where
 
     pub no_head_lies : (c : ℕ) → n.lane c 0 ≡ []
     no_head_lies c = nil_from_length (n.lane c 0) (empty_lane c)
-
-    pub no_head_flits : ((i : ℕ) → i < flows n → get_or (line n i).waiting 0 0 ≡ 0) × ((c : ℕ) → n.lane c 0 ≡ [])
-    no_head_flits = (no_head_waits, no_head_lies)

@@ -3,7 +3,7 @@ use Rattle.std.proofs.Common.{◌≡◌, ℕ, ◌+◌, ◌<◌, ◌≤◌, false
 use Rattle.std.proofs.lemmas.Bool.{true≢false}
 use Rattle.arbiters.specs.declared.arbiter.Arbiter as arbiter
 use Rattle.folds.specs.Filled.{filled}
-use Rattle.folds.proofs.Filled.{filled_none, filled_more, filled_skip, filled_all}
+use Rattle.folds.proofs.Filled.{filled_none, filled_more, filled_all}
 use Rattle.folds.proofs.Firsts.{first_none}
 use Rattle.routes.specs.Crossings.{crossing}
 use Rattle.routes.specs.declared.crossing.Crossing.{Crossing}
@@ -37,11 +37,6 @@ module _ {A : Type 0} (m : arbiter.Ghosts A) (n : Net) (a : A) where
       ap (λ xs. set xs c r) ge ∙ filled_more given None c 320 r l (ap (λ x. grant_at m n x c) (sym be) ∙ sym re),
       te ∙ ap (λ x. told_of m x c (grant_at m n x c)) be ∙ sym (held_more c),
     )
-
-    pub grants_skip : c < 320 → grant_at m n b c ≡ None → (gs ≡ filled given None (c + 1) 320) × (b ≡ held (c + 1))
-    grants_skip l h =
-        let q : given c ≡ None = ap (λ x. grant_at m n x c) (sym be) ∙ h in
-        (ge ∙ filled_skip given None c 320 l q, be ∙ sym (ap (told_of m (held c) c) q) ∙ sym (held_more c))
 
     pub grants_end : 320 ≤ c → c ≤ 320 → (gs ≡ grants m n a) × (b ≡ held 320)
     grants_end l u = let q : c ≡ 320 = omega arith in (ge ∙ filled_all given None c 320 l u, be ∙ ap held q)

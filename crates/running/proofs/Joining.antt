@@ -2,12 +2,12 @@
 use Rattle.std.proofs.Common.{◌≡◌, ℕ, ◌+◌, ◌-◌, ◌<◌, Bool, true, false, cond, ◌≢◌, ◌⊎◌, List, length, get_or, set, sym, refl, ap, ◌∙◌, subst, inl, inr, arith}
 use Rattle.std.proofs.lemmas.List.{get_or-set_same, get_or-set_other, length-set, set-get_or}
 use Rattle.std.proofs.lemmas.List.Sums.{sum_by-set}
-use Rattle.std.proofs.lemmas.Bool.{cases_eq, lt-ltb}
+use Rattle.std.proofs.lemmas.Bool.{cases_eq}
 use Rattle.accounts.specs.Offers.{ready, bad_size, paid}
 use Rattle.routes.specs.Channels.{well_formed}
 use Rattle.sources.specs.Lines.{Line, joined, turned_away, offered}
 use Rattle.running.specs.Nets.{Net, no_line, line, flows}
-use Rattle.running.specs.Offers.{with_lines, offer_leaves}
+use Rattle.running.specs.Offers.{with_lines}
 use Rattle.running.specs.Sounds.{waiting_in, buffered_in, under_way, Tallied, Sound}
 use Rattle.running.proofs.Keeping.{kept_field, all_alike}
 
@@ -121,10 +121,3 @@ module _ (n : Net) (held : List ℕ) (ok : Sound n held) (i size : ℕ) (among :
       Sound (with_lines n (set n.lines i (offered (line n i) size)))
       (cond (bad_size (line n i).ledger size) held (cond (paid (line n i).ledger) (held_more n held i size) held))
   offered_sound few = offered_by (bad_size (line n i).ledger size) (paid (line n i).ledger) few
-
-  pub offer_leaves_sound : packet_place n i < 8 →
-      Sound (offer_leaves n i size) (cond (bad_size (line n i).ledger size) held (cond (paid (line n i).ledger) (held_more n held i size) held))
-  offer_leaves_sound few =
-      subst (λ b. Sound (cond b (with_lines n (set n.lines i (offered (line n i) size))) n)
-      (cond (bad_size (line n i).ledger size) held (cond (paid (line n i).ledger) (held_more n held i size) held)))
-      (sym (lt-ltb i (flows n) among)) (offered_sound few)

@@ -1,5 +1,7 @@
 pub mod Asking
 pub mod Granting
+pub mod Fronts
+pub mod Answering
 pub mod Turns
 pub mod Lines
 pub mod Same

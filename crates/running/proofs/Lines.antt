@@ -26,25 +26,6 @@ pub arrived_first : (b : Bool) (l : Line) → first_place (arrived_if b l) ≡ f
 arrived_first true l = refl
 arrived_first false l = refl
 
--- a route stays
-arrived_route : (b : Bool) (l : Line) → (arrived_if b l).route ≡ l.route
-arrived_route true l = refl
-arrived_route false l = refl
-
-without_route : (l : Line) (o : Option ℕ) → (without_first l o).route ≡ l.route
-without_route l None = refl
-without_route l (Some k) = refl
-
-left_route : (b : Bool) (l : Line) → (left_if b l).route ≡ l.route
-left_route true l = without_route l (first_place l)
-left_route false l = refl
-
-both_route : (a b : Bool) (l : Line) → (arrived_if a (left_if b l)).route ≡ l.route
-both_route a b l = arrived_route a (left_if b l) ∙ left_route b l
-
-pub line_route : (gs : List (Option Grant)) (i : ℕ) (l : Line) → (moved_line gs i l).route ≡ l.route
-line_route gs i l = both_route (gives_to (at_channel gs (last_channel l.route)) i) (gives_to (at_channel gs (first_channel l.route)) i) l
-
 -- what is done at once can be done in two turns: `last` and `first` tell of the later one
 pub two_turns : (last first a b : Bool) (l : Line) → (last ≡ true → a ≡ false) → (first ≡ true → b ≡ false) →
     arrived_if (last || a) (left_if (first || b) l) ≡ arrived_if last (left_if first (arrived_if a (left_if b l)))
@@ -57,7 +38,7 @@ two_turns true true false true l p q = absurd (both_ways true (q refl) refl)
 two_turns true true false false l p q = refl
 two_turns true false false b l p q = refl
 
--- moves leave the flows and their routes
+-- moves leave the flows, and move the lines one by one
 module _ (n : Net) (gs : List (Option Grant)) where
   pub moved_flows : flows (moved n gs) ≡ flows n
   moved_flows = length_up (λ i. moved_line gs i (line n i)) 0 (flows n)
@@ -68,8 +49,27 @@ module _ (n : Net) (gs : List (Option Grant)) where
   pub line_none : (i : ℕ) → flows n ≤ i → line (moved n gs) i ≡ line n i
   line_none i l = getD_up_past (λ j. moved_line gs j (line n j)) (flows n) i no_line l ∙ sym (get_or_past n.lines i no_line l)
 
-  route_moved : (i : ℕ) → i < flows n → route (moved n gs) i ≡ route n i
-  route_moved i l = ap (λ (t : Line). t.route) (line_moved i l) ∙ line_route gs i (line n i)
+-- what a flit that leaves and one that arrives keep of a line, moves keep of every line
+module _
+    {Y : Type 0} (field : Line → Y) (leaves : (l : Line) (o : Option ℕ) → field (without_first l o) ≡ field l)
+    (arrives : (l : Line) → field (arrived l) ≡ field l) where
+  both_keep : (a b : Bool) (l : Line) → field (arrived_if a (left_if b l)) ≡ field l
+  both_keep true true l = arrives (left_by l) ∙ leaves l (first_place l)
+  both_keep true false l = arrives l
+  both_keep false true l = leaves l (first_place l)
+  both_keep false false l = refl
 
-  pub moved_route : (i : ℕ) → route (moved n gs) i ≡ route n i
-  moved_route i = ⊎_elim (route_moved i) (λ l. ap (λ (t : Line). t.route) (line_none i l)) (cases_lt i (flows n))
+  line_keeps : (gs : List (Option Grant)) (i : ℕ) (l : Line) → field (moved_line gs i l) ≡ field l
+  line_keeps gs i l = both_keep (gives_to (at_channel gs (last_channel l.route)) i) (gives_to (at_channel gs (first_channel l.route)) i) l
+
+  pub moved_keeps : (n : Net) (gs : List (Option Grant)) (i : ℕ) → field (line (moved n gs) i) ≡ field (line n i)
+  moved_keeps n gs i =
+      ⊎_elim (λ l. ap field (line_moved n gs i l) ∙ line_keeps gs i (line n i)) (λ l. ap field (line_none n gs i l)) (cases_lt i (flows n))
+
+-- so routes stay
+without_route : (l : Line) (o : Option ℕ) → (without_first l o).route ≡ l.route
+without_route l None = refl
+without_route l (Some k) = refl
+
+pub moved_route : (n : Net) (gs : List (Option Grant)) (i : ℕ) → route (moved n gs) i ≡ route n i
+moved_route = moved_keeps (λ l. l.route) without_route (λ l. refl)

@@ -50,7 +50,7 @@ shifted_window l true = refl
 shifted_window l false = refl
 
 -- what a shift keeps of a line, kept in every line
-kept_on : {Y : Type 0} (field : Line → Y) → ((l : Line) → field (moved_on l) ≡ field l) → (ls : List Line) (j : ℕ) →
+pub kept_on : {Y : Type 0} (field : Line → Y) → ((l : Line) → field (moved_on l) ≡ field l) → (ls : List Line) (j : ℕ) →
     field (get_or (map moved_on ls) j no_line) ≡ field (get_or ls j no_line)
 kept_on field same [] j = refl
 kept_on field same (l ∷ ls) zero = same l

@@ -1,10 +1,11 @@
 -- A network just started is sound, and holds nothing.
-use Rattle.std.proofs.Common.{◌≡◌, ℕ, ◌<◌, ◌≤◌, true, ◌&&◌, leb, List, [], ◌∷◌, map, length, get_or, replicate, sum_by, refl, ap, ◌∙◌, arith}
+use Rattle.std.proofs.Common.{◌≡◌, ℕ, ◌<◌, ◌≤◌, true, ◌&&◌, List, [], ◌∷◌, map, length, get_or, replicate, sum_by, refl, ap, ◌∙◌, arith}
 use Rattle.std.proofs.lemmas.List.{length-map, get_or-map}
 use Rattle.std.proofs.lemmas.List.Sums.{sum_by-cons}
-use Rattle.std.proofs.lemmas.Bool.{and_parts, leb-true}
+use Rattle.std.proofs.lemmas.Bool.{and_parts}
 use Rattle.folds.specs.Sums.{total}
 use Rattle.folds.proofs.Sums.{total_none}
+use Rattle.plan.proofs.Ranges.{within_parts}
 use Rattle.plan.specs.Settings.{settings_fit}
 use Rattle.plan.specs.Tables.{Flow, Table}
 use Rattle.routes.specs.Channels.{within, well_formed}
@@ -12,9 +13,6 @@ use Rattle.sources.proofs.Opening.{none_waiting}
 use Rattle.running.specs.Cycles.{opened_flow, started}
 use Rattle.running.specs.Nets.{no_line, line, flows}
 use Rattle.running.specs.Sounds.{Ranges, InStep, Tallied, Accounted, Sound}
-
-inside : (low high n : ℕ) → within low high n ≡ true → (low ≤ n) × (n ≤ high)
-inside low high n e = let p = and_parts (leb low n) (leb n high) e in (leb-true low n p.0, leb-true n high p.1)
 
 none_wait : (k window : ℕ) (fs : List Flow) → sum_by (λ l. get_or l.waiting k 0) (map (opened_flow window) fs) ≡ 0
 none_wait k window [] = refl
@@ -31,7 +29,7 @@ module _
   ranges =
       let p = and_parts (within 2 8 t.settings.window) (within 1 4096 t.settings.frame && within 1 8 t.settings.depth) fit in
       let q = and_parts (within 1 4096 t.settings.frame) (within 1 8 t.settings.depth) p.1 in
-      (inside 2 8 t.settings.window p.0, inside 1 8 t.settings.depth q.1, (omega arith, omega arith), omega (arith, same_flows))
+      (within_parts 2 8 t.settings.window p.0, within_parts 1 8 t.settings.depth q.1, (omega arith, omega arith), omega (arith, same_flows))
 
   in_step : InStep (started t)
   in_step i l =

@@ -2,19 +2,20 @@ ghost use Rattle.std.specs.Prelude.{◌≡◌, Some};
 ghost use Rattle.running.specs.Refusals.{run_refusal_number, run_refusal_text, as_run};
 
 use sources::OfferRefusal;
+use std::error::Error;
 use std::fmt;
 
 /// Why a running network refused a call.
 #[derive(Clone, Copy, Debug, PartialEq, Eq)]
 pub enum RunRefusal {
     /// No flow has that number.
-    NoSuchFlow,
+    NoSuchFlow = 9,
     /// A packet of no flits, or of more than the flow's largest.
-    PacketSize,
+    PacketSize = 10,
     /// The flow's slots in all open frames are spent.
-    WindowSpent,
+    WindowSpent = 11,
     /// All 16,777,216 cycles are made.
-    RunOver,
+    RunOver = 12,
 }
 
 impl RunRefusal {
@@ -22,12 +23,7 @@ impl RunRefusal {
     pub fn number(self) -> u32
         ensures { result ≡ run_refusal_number self }
     {
-        match self {
-            RunRefusal::NoSuchFlow => 9,
-            RunRefusal::PacketSize => 10,
-            RunRefusal::WindowSpent => 11,
-            RunRefusal::RunOver => 12,
-        }
+        self as u32
     }
 }
 
@@ -43,6 +39,8 @@ impl fmt::Display for RunRefusal {
         }
     }
 }
+
+impl Error for RunRefusal {}
 
 impl From<OfferRefusal> for RunRefusal {
     ghost from_gives = { λ x y. y ≡ as_run x };

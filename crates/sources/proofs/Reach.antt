@@ -5,28 +5,28 @@ use Rattle.std.proofs.lemmas.List.{get_or_past}
 use Rattle.std.proofs.lemmas.Int.{ints}
 use Rattle.std.proofs.lemmas.List.Sums.{get_or-le-sum_by}
 use Rattle.std.proofs.lemmas.Bool.{cases_lt}
-use Rattle.accounts.specs.Accounts.{ledger}
 use Rattle.accounts.specs.Ledgers.{Ledger}
 use Rattle.accounts.specs.Offers.{ready}
 use Rattle.accounts.proofs.Ready.{ready_is}
-use Rattle.sources.specs.declared.feed.Source.{Source}
+use Rattle.sources.specs.Lines.{Line}
+use Rattle.sources.specs.Sources.{SoundLine}
 
--- a packet's frame is an open one past the head frame
-pub ready_near : (s : Source) → (s.account.head < (ready (ledger s.account)).frame) × ((ready (ledger s.account)).frame < s.account.head + 8)
-ready_near s =
-    let l = ledger s.account in
-    let g = ready_is l in
-    let f : (ready l).frame ≡ l.frame + g.by = ap (λ (m : Ledger). m.frame) g.is in
-    (omega (arith, f, g.most, s.account.sound), omega (arith, f, g.most, s.account.sound))
+module _ {l : Line} (ok : SoundLine l) where
+  -- a packet's frame is an open one past the head frame
+  pub ready_near : (l.ledger.head < (ready l.ledger).frame) × ((ready l.ledger).frame < l.ledger.head + 8)
+  ready_near =
+      let g = ready_is l.ledger in
+      let f : (ready l.ledger).frame ≡ l.ledger.frame + g.by = ap (λ (m : Ledger). m.frame) g.is in
+      (omega (arith, f, g.most, ok.sound), omega (arith, f, g.most, ok.sound))
 
-pub few_accepted : (s : Source) → s.accepted ≤ 68719509568
-few_accepted s =
-    let most = mul-le s.account.frame s.account.slots 16777223 4096 (omega (arith, s.account.sound)) (omega (arith, s.account.sound)) in
-    omega (arith, ints, s.owed, most, s.account.sound)
+  pub few_accepted : l.accepted ≤ 68719509568
+  few_accepted =
+      let most = mul-le l.ledger.frame l.ledger.slots 16777223 4096 (omega (arith, ok.sound)) (omega (arith, ok.sound)) in
+      omega (arith, ints, ok.owed, most, ok.sound)
 
-few_by : (s : Source) (k : ℕ) → ((k < 8) ⊎ (8 ≤ k)) → get_or s.waiting k 0 ≤ 68719509568
-few_by s k (inl l) = omega (arith, get_or-le-sum_by (λ n. n) s.waiting k 0 (omega (arith, s.sized)), s.counted, few_accepted s)
-few_by s k (inr l) = omega (arith, get_or_past s.waiting k 0 (omega (arith, s.sized)))
+  few_by : (k : ℕ) → ((k < 8) ⊎ (8 ≤ k)) → get_or l.waiting k 0 ≤ 68719509568
+  few_by k (inl low) = omega (arith, get_or-le-sum_by (λ n. n) l.waiting k 0 (omega (arith, ok.sized)), ok.counted, few_accepted)
+  few_by k (inr past) = omega (arith, get_or_past l.waiting k 0 (omega (arith, ok.sized)))
 
-pub few_waiting : (s : Source) (k : ℕ) → get_or s.waiting k 0 ≤ 68719509568
-few_waiting s k = few_by s k (cases_lt k 8)
+  pub few_waiting : (k : ℕ) → get_or l.waiting k 0 ≤ 68719509568
+  few_waiting k = few_by k (cases_lt k 8)

@@ -3,6 +3,7 @@ use Rattle.std.specs.Prelude.{ℕ, List, codes}
 use Rattle.sources.specs.declared.refusal.OfferRefusal.{OfferRefusal}
 use Rattle.sources.specs.declared.refusal.OfferRefusal.TheVariants.{PacketSize, WindowSpent}
 
+-- the number of a refusal
 abbrev pub offer_refusal_number : OfferRefusal → ℕ
 offer_refusal_number PacketSize = 10
 offer_refusal_number WindowSpent = 11

@@ -1,23 +1,14 @@
--- The flow that a source stands for.
-use Rattle.std.specs.Prelude.{Ok, Err, Result}
-use Rattle.accounts.specs.Accounts.{ledger}
-use Rattle.accounts.specs.declared.refusal.AccountRefusal.{AccountRefusal}
-use Rattle.routes.specs.Routes.{channels_of}
+-- What a source keeps.
+use Rattle.std.specs.Prelude.{◌≡◌, ℕ, ◌+◌, ◌*◌, ◌<◌, ◌≤◌, length, pos, ◌+ℤ◌, ◌≤ℤ◌, sum, slice_index}
+use Rattle.accounts.specs.Ledgers.{Sound}
 use Rattle.sources.specs.Lines.{Line}
-use Rattle.sources.specs.declared.feed.Source.{Source}
 
-abbrev pub line_of : Source → Line
-line_of s = record {
-  ledger = ledger s.account;
-  route = channels_of s.route;
-  waiting = s.waiting;
-  sent = s.sent;
-  accepted = s.accepted;
-  delivered = s.delivered;
-  refused = s.refused;
-}
-
--- an answer with the flow in the place of its source
-abbrev pub lined : Result Source AccountRefusal → Result Line AccountRefusal
-lined (Ok s) = Ok (line_of s)
-lined (Err e) = Err e
+-- the account keeps its limits; each frame that can be open has its count; a flit that was accepted waits or has left; none waits for a
+-- frame past the injection frame; what was accepted is paid from the slots up to that frame; a flit has left before it arrives
+pub record SoundLine (l : Line) : Type 0 where
+  pub sound : Sound l.ledger
+  pub sized : length l.waiting ≡ 8
+  pub counted : l.sent + sum l.waiting ≡ l.accepted
+  pub ordered : (k : ℕ) → l.ledger.frame < l.ledger.head + k → slice_index l.waiting k ≡ 0
+  pub owed : (pos l.accepted +ℤ l.ledger.balance) ≤ℤ pos (l.ledger.frame * l.ledger.slots)
+  pub arrived : l.delivered ≤ l.sent

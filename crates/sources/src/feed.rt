@@ -1,24 +1,35 @@
-ghost use Rattle.std.specs.Prelude.{◌≡◌, ℕ, ◌+◌, ◌*◌, ◌<◌, ◌≤◌, length, pos, ◌+ℤ◌, ◌≤ℤ◌, sum, slice_index};
-
 use accounts::Account;
 use routes::Route;
+use std::marker::Model;
 
 pub mod calls;
 pub mod counts;
 
-/// The source of a flow: its account, the flits that wait there for each open frame, and its counts.
+/// How many frames can be open together.
+const PLACES: usize = 8;
+
+/// The source of a flow: its account, the flits that wait there for each open frame, and its counts. A contract sees
+/// them as one record, in numbers and lists of numbers.
 #[derive(Clone, Copy)]
 pub struct Source {
     account: Account,
     route: Route,
-    waiting: [u64; 8],
+    waiting: [u64; PLACES],
     sent: u64,
     accepted: u64,
     delivered: u64,
     refused: u32,
-    ghost sized: { length waiting ≡ 8 },
-    ghost counted: { sent + sum waiting ≡ accepted },
-    ghost ordered: { (k : ℕ) → account.frame < account.head + k → slice_index waiting k ≡ 0 },
-    ghost owed: { (pos accepted +ℤ account.balance) ≤ℤ pos (account.frame * account.slots) },
-    ghost arrived: { delivered ≤ sent },
+}
+
+impl Model for Source {
+    ghost use Rattle.sources.specs.Lines.{Line};
+    ghost use Rattle.sources.specs.Sources.{SoundLine};
+
+    ghost Value = { Line };
+
+    ghost view = { λ s. record { ledger = s.account; route = s.route; waiting = s.waiting; sent = s.sent; accepted = s.accepted; delivered = s.delivered; refused = s.refused } };
+
+    ghost invariant = { λ s. SoundLine (record { ledger = s.account; route = s.route; waiting = s.waiting; sent = s.sent; accepted = s.accepted; delivered = s.delivered; refused = s.refused }) };
+
+    ghost inverse = { λ l. record { account = l.ledger; route = l.route; waiting = l.waiting; sent = l.sent; accepted = l.accepted; delivered = l.delivered; refused = l.refused } };
 }

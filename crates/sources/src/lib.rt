@@ -5,4 +5,4 @@ pub mod feed;
 pub mod refusal;
 
 pub use feed::Source;
-pub use refusal::OfferRefusal;
+pub use refusal::{OfferRefusal, ShiftRefusal};

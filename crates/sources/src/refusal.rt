@@ -1,15 +1,25 @@
 ghost use Rattle.std.specs.Prelude.{◌≡◌, Some};
 ghost use Rattle.sources.specs.Refusals.{offer_refusal_number, offer_refusal_text};
 
+use std::error::Error;
 use std::fmt;
 
 /// Why a source refused a packet.
 #[derive(Clone, Copy, Debug, PartialEq, Eq)]
 pub enum OfferRefusal {
     /// A packet of no flits, or of more than the flow's largest.
-    PacketSize,
+    PacketSize = 10,
     /// The flow's slots in all open frames are spent.
-    WindowSpent,
+    WindowSpent = 11,
+}
+
+/// Why the window of a source did not shift.
+#[derive(Clone, Copy, Debug, PartialEq, Eq)]
+pub enum ShiftRefusal {
+    /// A flit waits for the head frame.
+    HeadFrameWaits,
+    /// The run has made its last shift.
+    RunOver,
 }
 
 impl OfferRefusal {
@@ -17,10 +27,7 @@ impl OfferRefusal {
     pub fn number(self) -> u32
         ensures { result ≡ offer_refusal_number self }
     {
-        match self {
-            OfferRefusal::PacketSize => 10,
-            OfferRefusal::WindowSpent => 11,
-        }
+        self as u32
     }
 }
 
@@ -34,3 +41,5 @@ impl fmt::Display for OfferRefusal {
         }
     }
 }
+
+impl Error for OfferRefusal {}

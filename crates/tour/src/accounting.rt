@@ -1,8 +1,8 @@
-use crate::stop::Stop;
 use accounts::Account;
+use anyhow::Result;
 
 /// Offers a packet, and prints the frame that it gets.
-fn show_offer(rt: &HostRuntime, account: &mut Account, size: u32) -> Result<(), Stop> {
+fn show_offer(rt: &impl Print, account: &mut Account, size: u32) -> Result<()> {
     match account.offer(size) {
         Ok(frame) => {
             let balance = account.balance();
@@ -17,7 +17,7 @@ fn show_offer(rt: &HostRuntime, account: &mut Account, size: u32) -> Result<(), 
 }
 
 /// A camera's burst into its account, and what the account promises.
-pub fn show_account(rt: &HostRuntime, slots: u32, largest: u32, window: u32) -> Result<(), Stop> {
+pub fn show_account(rt: &impl Print, slots: u32, largest: u32, window: u32) -> Result<()> {
     let mut account = Account::new(slots, largest, window)?;
     println!(rt; "")?;
     println!(rt;

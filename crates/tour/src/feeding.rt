@@ -1,9 +1,9 @@
-use crate::stop::Stop;
+use anyhow::Result;
 use routes::Route;
 use sources::Source;
 
 /// Offers a packet, and prints the frame that its flits wait for.
-fn show_offer(rt: &HostRuntime, source: &mut Source, size: u32) -> Result<(), Stop> {
+fn show_offer(rt: &impl Print, source: &mut Source, size: u32) -> Result<()> {
     match source.offer(size) {
         Ok(frame) => {
             let waiting = source.waiting();
@@ -18,7 +18,7 @@ fn show_offer(rt: &HostRuntime, source: &mut Source, size: u32) -> Result<(), St
 }
 
 /// Lets the flits leave that wait for the earliest frame, and prints how many there were.
-fn show_leaving(rt: &HostRuntime, source: &mut Source) -> Result<(), Stop> {
+fn show_leaving(rt: &impl Print, source: &mut Source) -> Result<()> {
     let before = source.waiting();
     let frame = source.first_frame();
     for _ in 0..before {
@@ -34,12 +34,12 @@ fn show_leaving(rt: &HostRuntime, source: &mut Source) -> Result<(), Stop> {
 
 /// The source of a flow at work: packets wait for their frames, flits leave in order.
 pub fn show_source(
-    rt: &HostRuntime,
+    rt: &impl Print,
     slots: u32,
     largest: u32,
     window: u32,
     channels: &[u32],
-) -> Result<(), Stop> {
+) -> Result<()> {
     let mut source = Source::new(slots, largest, window, Route::new(channels)?)?;
     println!(rt; "")?;
     println!(rt; "Source: {slots} slots of each frame, route {channels:?}")?;

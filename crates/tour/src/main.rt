@@ -5,29 +5,29 @@
 mod accounting;
 mod feeding;
 mod planning;
-mod stop;
 mod timing;
 
+use anyhow::Result;
 use mesh::Mesh;
 use plan::{Plan, Settings};
 use printer::WISHES;
-use stop::Stop;
 
 /// Plans the printer: its routes, its reservations and its sheet.
-fn plan_printer(rt: &HostRuntime, side: u32, settings: Settings) -> Result<(), Stop> {
+fn plan_printer(rt: &(impl Print + AllocGlobal), side: u32, settings: Settings) -> Result<()> {
     let mesh = Mesh::new(side)?;
     let mut plan = Plan::new();
     plan.set(settings)?;
+    // A plan keeps no names.
     let mut names = Vec::new(rt.alloc());
     for wish in &WISHES {
-        if planning::reserve(rt, &mesh, &mut plan, wish)? {
+        if planning::reserve(rt, &mesh, &mut plan, wish)?.is_some() {
             names.push(wish.name)?;
         }
     }
     planning::print_sheet(rt, &plan, names.as_slice())
 }
 
-fn main(rt: HostRuntime) -> Result<(), Stop> {
+fn main(rt: HostRuntime) -> Result<()> {
     let (side, window, frame, depth) = (8, 4, 64, 4);
     println!(rt; "Label printer on an {side} by {side} mesh")?;
     println!(rt; "window of {window} frames, frames of {frame} slots, buffers of {depth} flits")?;

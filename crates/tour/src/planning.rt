@@ -1,10 +1,10 @@
-use crate::stop::Stop;
+use anyhow::Result;
 use mesh::Mesh;
 use plan::{ChannelLoad, Plan, PlanRefusal};
 use printer::Wish;
 
 /// Prints the load of each channel of the route.
-fn print_loads(rt: &HostRuntime, plan: &Plan, route: &[u32]) -> Result<(), Stop> {
+fn print_loads(rt: &impl Print, plan: &Plan, route: &[u32]) -> Result<()> {
     print!(rt; "  loads")?;
     for channel in route {
         let load = plan.load(*channel);
@@ -15,11 +15,7 @@ fn print_loads(rt: &HostRuntime, plan: &Plan, route: &[u32]) -> Result<(), Stop>
 }
 
 /// Prints what came of a reservation.
-fn print_answer(
-    rt: &HostRuntime,
-    wish: &Wish,
-    answer: &Result<u32, PlanRefusal>,
-) -> Result<(), Stop> {
+fn print_answer(rt: &impl Print, wish: &Wish, answer: &Result<u32, PlanRefusal>) -> Result<()> {
     let slots = wish.slots;
     let largest = wish.largest;
     match answer {
@@ -34,8 +30,8 @@ fn print_answer(
     Ok(())
 }
 
-/// Reserves a wish, and prints its route and the loads it makes, or why it is refused.
-pub fn reserve(rt: &HostRuntime, mesh: &Mesh, plan: &mut Plan, wish: &Wish) -> Result<bool, Stop> {
+/// Reserves a wish, and prints its route and the loads it makes, or why it is refused. Answers the flow, if there is one.
+pub fn reserve(rt: &impl Print, mesh: &Mesh, plan: &mut Plan, wish: &Wish) -> Result<Option<u32>> {
     let Wish {
         name,
         from,
@@ -51,14 +47,15 @@ pub fn reserve(rt: &HostRuntime, mesh: &Mesh, plan: &mut Plan, wish: &Wish) -> R
     println!(rt; "  route {route:?}")?;
     let answer = plan.reserve(slots, largest, route);
     print_answer(rt, wish, &answer)?;
-    if answer.is_ok() {
+    let flow = answer.ok();
+    if flow.is_some() {
         print_loads(rt, plan, route)?;
     }
-    Ok(answer.is_ok())
+    Ok(flow)
 }
 
 /// Prints the busiest channel.
-fn print_busiest(rt: &HostRuntime, busiest: Option<ChannelLoad>, frame: u32) -> Result<(), Stop> {
+fn print_busiest(rt: &impl Print, busiest: Option<ChannelLoad>, frame: u32) -> Result<()> {
     match busiest {
         Some(ChannelLoad { channel, load }) => {
             println!(rt; "busiest channel: {channel}, with {load} of {frame} slots")?;
@@ -69,7 +66,7 @@ fn print_busiest(rt: &HostRuntime, busiest: Option<ChannelLoad>, frame: u32) -> 
 }
 
 /// Prints the sheet: a line for each flow, then the figures of the whole plan.
-pub fn print_sheet(rt: &HostRuntime, plan: &Plan, names: &[&'static str]) -> Result<(), Stop> {
+pub fn print_sheet(rt: &impl Print, plan: &Plan, names: &[&'static str]) -> Result<()> {
     let sheet = plan.sheet();
     println!(rt; "")?;
     println!(rt; "Sheet")?;

@@ -1,9 +1,9 @@
-use crate::stop::Stop;
+use anyhow::Result;
 use arbiters::{Arbiter, FlowSet, LeastRecentlyGranted};
 use clocks::{Barrier, Sampled, WindowClock};
 
 /// The chip's clock at work: a barrier that is read every second cycle.
-pub fn show_clock(rt: &HostRuntime) -> Result<(), Stop> {
+pub fn show_clock(rt: &impl Print) -> Result<()> {
     let mut clock = Sampled::new(Barrier::new(2)?, 2)?;
     let lag = clock.lag();
     println!(rt; "")?;
@@ -20,7 +20,7 @@ pub fn show_clock(rt: &HostRuntime) -> Result<(), Stop> {
 }
 
 /// The chip's arbiter at work: three camera lanes that all want the channel out to the vision engine.
-pub fn show_arbiter(rt: &HostRuntime, channel: u32, lanes: &[u32]) -> Result<(), Stop> {
+pub fn show_arbiter(rt: &impl Print, channel: u32, lanes: &[u32]) -> Result<()> {
     let mut arbiter = LeastRecentlyGranted::new();
     let mut flows = FlowSet::new();
     for lane in lanes {

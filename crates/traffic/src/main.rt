@@ -2,15 +2,14 @@
 #![tactic(auto)]
 
 mod moving;
-mod stop;
 
+use anyhow::Result;
 use mesh::Mesh;
 use plan::{Plan, Settings};
 use printer::WISHES;
-use stop::Stop;
 
 /// Plans the printer; a wish that does not fit is left out.
-fn plan_printer(side: u32, settings: Settings) -> Result<Plan, Stop> {
+fn plan_printer(side: u32, settings: Settings) -> Result<Plan> {
     let mesh = Mesh::new(side)?;
     let mut plan = Plan::new();
     plan.set(settings)?;
@@ -22,7 +21,7 @@ fn plan_printer(side: u32, settings: Settings) -> Result<Plan, Stop> {
     Ok(plan)
 }
 
-fn main(rt: HostRuntime) -> Result<(), Stop> {
+fn main(rt: HostRuntime) -> Result<()> {
     let (side, window, frame, depth) = (8, 4, 64, 4);
     println!(rt; "Label printer on an {side} by {side} mesh")?;
     println!(rt; "window of {window} frames, frames of {frame} slots, buffers of {depth} flits")?;

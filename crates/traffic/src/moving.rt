@@ -1,4 +1,4 @@
-use crate::stop::Stop;
+use anyhow::Result;
 use arbiters::LeastRecentlyGranted;
 use clocks::{Barrier, Sampled};
 use guarantee::{Bounds, figures, share};
@@ -8,16 +8,41 @@ use plan::Plan;
 /// The printer's network: a barrier that is looked at every other cycle, and the flow that crossed least recently first.
 type Printer = Network<LeastRecentlyGranted, Sampled<Barrier>>;
 
-/// What the run has come to so far.
-#[derive(Clone, Copy)]
-struct Watch {
+/// The printer's network, and what its run has come to so far.
+#[derive(Drop)]
+struct Watched {
+    network: Printer,
     since_shift: u32,
     longest_epoch: u32,
     delivered: u32,
 }
 
+impl Watched {
+    /// A network of which nothing was seen yet.
+    fn new(network: Printer) -> Watched {
+        Watched {
+            network,
+            since_shift: 0,
+            longest_epoch: 0,
+            delivered: 0,
+        }
+    }
+
+    /// Makes a cycle, and notes what came of it.
+    fn cycle(&mut self) -> Result<(bool, u32)> {
+        let (shifted, delivered) = self.network.cycle()?;
+        self.since_shift = self.since_shift.saturating_add(1);
+        self.delivered = self.delivered.saturating_add(delivered);
+        if shifted {
+            self.longest_epoch = self.longest_epoch.max(self.since_shift);
+            self.since_shift = 0;
+        }
+        Ok((shifted, delivered))
+    }
+}
+
 /// Prints a figure, or that there is none.
-fn print_figure(rt: &HostRuntime, what: &str, figure: Option<u64>) -> Result<(), Stop> {
+fn print_figure(rt: &impl Print, what: &str, figure: Option<u64>) -> Result<()> {
     match figure {
         Some(cycles) => println!(rt; "  {what}: {cycles} cycles")?,
         None => println!(rt; "  {what}: none, the clock's lag is too long")?,
@@ -26,11 +51,15 @@ fn print_figure(rt: &HostRuntime, what: &str, figure: Option<u64>) -> Result<(),
 }
 
 /// Prints the figures that hold whatever is offered.
-fn print_figures(rt: &HostRuntime, plan: &Plan, bounds: &Bounds) -> Result<(), Stop> {
+fn print_figures(rt: &impl Print, plan: &Plan, bounds: Option<Bounds>) -> Result<()> {
     println!(rt; "")?;
     println!(rt; "Figures, whatever is offered")?;
-    print_figure(rt, "longest epoch", bounds.epoch)?;
-    print_figure(rt, "longest way from offer to delivery", bounds.delivery)?;
+    print_figure(rt, "longest epoch", bounds.map(|bounds| bounds.epoch))?;
+    print_figure(
+        rt,
+        "longest way from offer to delivery",
+        bounds.map(|bounds| bounds.delivery),
+    )?;
     let window = plan.settings().window;
     for flow in 0..plan.flow_count() {
         if let (Some(one), Some(all)) = (share(plan, flow, 1), share(plan, flow, window)) {
@@ -43,7 +72,7 @@ fn print_figures(rt: &HostRuntime, plan: &Plan, bounds: &Bounds) -> Result<(), S
 }
 
 /// Offers packets of two flits of every flow until its window is spent.
-fn fill(rt: &HostRuntime, network: &mut Printer) -> Result<(), Stop> {
+fn fill(rt: &impl Print, network: &mut Printer) -> Result<()> {
     println!(rt; "")?;
     println!(rt; "Every flow offers packets of 2 flits until its window is spent")?;
     for flow in 0..network.flow_count() {
@@ -52,7 +81,7 @@ fn fill(rt: &HostRuntime, network: &mut Printer) -> Result<(), Stop> {
             match network.offer(flow, 2) {
                 Ok(_) => packets = packets.saturating_add(1),
                 Err(RunRefusal::WindowSpent) => break,
-                Err(refusal) => return Err(Stop::Run(refusal)),
+                Err(refusal) => return Err(refusal.into()),
             }
         }
         println!(rt; "  flow {flow}: {packets} packets accepted")?;
@@ -62,24 +91,12 @@ fn fill(rt: &HostRuntime, network: &mut Printer) -> Result<(), Stop> {
     Ok(())
 }
 
-/// Makes a cycle, and notes what came of it.
-fn watch_cycle(network: &mut Printer, watch: &mut Watch) -> Result<(bool, u32), Stop> {
-    let (shifted, delivered) = network.cycle()?;
-    watch.since_shift = watch.since_shift.saturating_add(1);
-    watch.delivered = watch.delivered.saturating_add(delivered);
-    if shifted {
-        watch.longest_epoch = watch.longest_epoch.max(watch.since_shift);
-        watch.since_shift = 0;
-    }
-    Ok((shifted, delivered))
-}
-
 /// Prints the first cycles one by one.
-fn show_cycles(rt: &HostRuntime, network: &mut Printer, watch: &mut Watch) -> Result<(), Stop> {
+fn show_cycles(rt: &impl Print, run: &mut Watched) -> Result<()> {
     for cycle in 1..13u32 {
-        let (shifted, delivered) = watch_cycle(network, watch)?;
-        let held = network.held();
-        let head = network.head_frame();
+        let (shifted, delivered) = run.cycle()?;
+        let held = run.network.held();
+        let head = run.network.head_frame();
         let shift = if shifted { ", the window shifts" } else { "" };
         println!(rt;
             "  cycle {cycle:>2}: head frame {head}, {delivered} delivered, {held} held{shift}"
@@ -89,7 +106,7 @@ fn show_cycles(rt: &HostRuntime, network: &mut Printer, watch: &mut Watch) -> Re
 }
 
 /// Prints each flow's counts.
-fn print_counts(rt: &HostRuntime, network: &Printer) -> Result<(), Stop> {
+fn print_counts(rt: &impl Print, network: &Printer) -> Result<()> {
     println!(rt; "flow  accepted  delivered  refused")?;
     for flow in 0..network.flow_count() {
         if let Some(counts) = network.counts(flow) {
@@ -103,33 +120,36 @@ fn print_counts(rt: &HostRuntime, network: &Printer) -> Result<(), Stop> {
 }
 
 /// Makes cycles until nothing is held, and prints how close the run came to its figures.
-fn drain(
-    rt: &HostRuntime,
-    network: &mut Printer,
-    watch: &mut Watch,
-    bounds: &Bounds,
-) -> Result<(), Stop> {
+fn drain(rt: &impl Print, run: &mut Watched, bounds: Option<Bounds>) -> Result<()> {
     for _ in 0..100000u32 {
-        if network.held() == 0 {
+        if run.network.held() == 0 {
             break;
         }
-        watch_cycle(network, watch)?;
+        run.cycle()?;
     }
-    let cycles = network.cycles();
-    let delivered = watch.delivered;
-    let longest = watch.longest_epoch;
+    let cycles = run.network.cycles();
+    let delivered = run.delivered;
+    let longest = run.longest_epoch;
     println!(rt; "  all {delivered} flits delivered after {cycles} cycles")?;
     println!(rt; "")?;
     println!(rt; "How close the run came to its figures")?;
     println!(rt; "  longest epoch seen: {longest} cycles")?;
-    print_figure(rt, "longest there can be", bounds.epoch)?;
+    print_figure(
+        rt,
+        "longest there can be",
+        bounds.map(|bounds| bounds.epoch),
+    )?;
     println!(rt; "  cycles made by then: {cycles}")?;
-    print_figure(rt, "longest there can be", bounds.delivery)?;
-    print_counts(rt, network)
+    print_figure(
+        rt,
+        "longest there can be",
+        bounds.map(|bounds| bounds.delivery),
+    )?;
+    print_counts(rt, &run.network)
 }
 
 /// Prints a bounded run.
-fn show_run(rt: &HostRuntime, network: &mut Printer, allowance: u32) -> Result<(), Stop> {
+fn show_run(rt: &impl Print, network: &mut Printer, allowance: u32) -> Result<()> {
     let (made, ending) = network.run(allowance);
     let why = match ending {
         Ending::Empty => "nothing is held",
@@ -141,36 +161,29 @@ fn show_run(rt: &HostRuntime, network: &mut Printer, allowance: u32) -> Result<(
 }
 
 /// Starts the plan, offers, cycles, and prints what moves.
-pub fn run_printer(rt: &HostRuntime, plan: Plan) -> Result<(), Stop> {
+pub fn run_printer(rt: &impl Print, plan: Plan) -> Result<()> {
     let arbiter = LeastRecentlyGranted::new();
     let clock = Sampled::new(Barrier::new(2)?, 2)?;
     let bounds = figures(&plan, &arbiter, &clock);
-    print_figures(rt, &plan, &bounds)?;
+    print_figures(rt, &plan, bounds)?;
     let mut network = Network::start(plan, arbiter, clock);
-    let mut watch = Watch {
-        since_shift: 0,
-        longest_epoch: 0,
-        delivered: 0,
-    };
     fill(rt, &mut network)?;
+    let mut run = Watched::new(network);
     println!(rt; "")?;
     println!(rt; "Cycles")?;
-    show_cycles(rt, &mut network, &mut watch)?;
-    drain(rt, &mut network, &mut watch, &bounds)?;
+    show_cycles(rt, &mut run)?;
+    drain(rt, &mut run, bounds)?;
     println!(rt; "")?;
     println!(rt; "Two packets more")?;
-    let first = network.offer(0, 2)?;
-    let second = network.offer(9, 2)?;
+    let first = run.network.offer(0, 2)?;
+    let second = run.network.offer(9, 2)?;
     println!(rt; "  flow 0's gets frame {first}, flow 9's frame {second}")?;
-    show_run(rt, &mut network, 3)?;
-    show_run(rt, &mut network, 1000)?;
-    show_run(rt, &mut network, 1000)?;
-    match network.offer(64, 1) {
-        Ok(_) => {}
-        Err(refusal) => {
-            let number = refusal.number();
-            println!(rt; "  offer of flow 64 refused, number {number}: {refusal}")?;
-        }
+    show_run(rt, &mut run.network, 3)?;
+    show_run(rt, &mut run.network, 1000)?;
+    show_run(rt, &mut run.network, 1000)?;
+    if let Err(refusal) = run.network.offer(64, 1) {
+        let number = refusal.number();
+        println!(rt; "  offer of flow 64 refused, number {number}: {refusal}")?;
     }
     Ok(())
 }

@@ -62,10 +62,8 @@ fn terms_at_their_edges(rt: HostRuntime) -> Result<(), Fail> {
         (1, 0, 2, 4),
         (1, 65, 8, 4),
     ] {
-        match Account::new(slots, largest, window) {
-            Ok(_) => return Err(Fail::new("opened")),
-            Err(refusal) => assert_eq!(rt; refusal.number(), number),
-        }
+        let refused = Account::new(slots, largest, window).err();
+        assert_eq!(rt; refused.map(|refusal| refusal.number()), Some(number));
     }
     assert!(rt; Account::new(1, 1, 2).is_ok());
     assert!(rt; Account::new(4096, 64, 8).is_ok());

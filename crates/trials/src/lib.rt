@@ -6,6 +6,8 @@ mod feeds;
 #[cfg(test)]
 mod ledgers;
 #[cfg(test)]
+mod listing;
+#[cfg(test)]
 mod meshes;
 #[cfg(test)]
 mod networks;

@@ -49,8 +49,8 @@ fn served<A: Arbiter, C: WindowClock>(
 ) -> Result<(bool, Option<u32>), Fail> {
     let before = [network.counts(0), network.counts(1), network.counts(2)];
     let (shifted, delivered) = network.cycle()?;
-    for flow in 0..3u32 {
-        if network.counts(flow) != before[flow as usize] {
+    for (flow, counts) in (0..3u32).zip(&before) {
+        if network.counts(flow) != *counts {
             assert_eq!(rt; delivered, 1);
             return Ok((shifted, Some(flow)));
         }
@@ -187,8 +187,8 @@ fn shifts<C: WindowClock + Drop>(rt: &impl Abort, clock: C) -> Result<[bool; 6],
     let mut network = Network::start(one_flow(rt, 1, &[0])?, RoundRobin::new(), clock);
     assert_eq!(rt; network.offer(0, 4), Ok(1));
     let mut shifts = [false; 6];
-    for cycle in 0..6 {
-        shifts[cycle] = network.cycle()?.0;
+    for shifted in &mut shifts {
+        *shifted = network.cycle()?.0;
     }
     assert_eq!(rt; network.counts(0), counted(4, 4, 0));
     Ok(shifts)
@@ -261,9 +261,9 @@ fn buffers_at_their_edges(rt: HostRuntime) {
         flow: 63,
         number: 7,
     };
-    assert!(rt; !buffers.push(320, 2, flit));
-    assert!(rt; !buffers.push(319, 3, flit));
-    assert!(rt; buffers.push(319, 2, flit));
+    assert_eq!(rt; buffers.push(320, 2, flit), Err(flit));
+    assert_eq!(rt; buffers.push(319, 3, flit), Err(flit));
+    assert_eq!(rt; buffers.push(319, 2, flit), Ok(()));
     for ahead in [2, 1, 0, 2] {
         assert_eq!(rt; buffers.len(319, ahead), 1);
         assert_eq!(rt; buffers.front(319, ahead), Some(flit));

@@ -1,48 +1,49 @@
 //! What an account holds.
 ghost use Rattle.std.specs.Prelude.{◌≡◌};
-ghost use Rattle.accounts.specs.Accounts.{ledger};
+ghost use Rattle.accounts.specs.Ledgers.{Sound};
 
 use super::Account;
 
 impl Account {
     /// The slots of the flow in each frame.
     pub fn slots(&self) -> u32
-        ensures { result ≡ (ledger self.now).slots }
+        ensures { result ≡ self.now.slots }
     {
         self.slots
     }
 
     /// The flits of the flow's largest packet.
     pub fn largest(&self) -> u32
-        ensures { result ≡ (ledger self.now).largest }
+        ensures { result ≡ self.now.largest }
     {
         self.largest
     }
 
     /// The number of open frames.
     pub fn window(&self) -> u32
-        ensures { result ≡ (ledger self.now).window }
+        ensures { result ≡ self.now.window }
     {
         self.window
     }
 
     /// The head frame, the first of the open ones.
     pub fn head(&self) -> u64
-        ensures { result ≡ (ledger self.now).head }
+        ensures { result ≡ self.now.head }
     {
         self.head
     }
 
     /// The injection frame: at first 1, then that of the packet accepted last, or a later one after a shift.
     pub fn frame(&self) -> u64
-        ensures { result ≡ (ledger self.now).frame }
+        ensures { result ≡ self.now.frame }
     {
         self.frame
     }
 
     /// What is left of the slots up to the injection frame; below 0 what is overdrawn.
     pub fn balance(&self) -> i64
-        ensures { result ≡ (ledger self.now).balance }
+        ensures value { result ≡ self.now.balance }
+        ensures sound { Sound self.now }
     {
         self.balance
     }

@@ -1,9 +1,8 @@
-ghost use Rattle.std.specs.Prelude.{◌≡◌, ℕ, false, not, ◌||◌, List, length};
+ghost use Rattle.std.specs.Prelude.{◌≡◌, false, length};
 ghost use Rattle.network.specs.Networks.{run_of};
-ghost use Rattle.plan.specs.Plans.{table_of};
 ghost use Rattle.running.specs.Cycles.{started_run, offered_run, cycle_answer, cycle_leaves, cycled, shifts_now, delivered_now, run_over};
 ghost use Rattle.running.specs.Offers.{offer_answer};
-ghost use Rattle.running.specs.Runs.{nothing_held, run_answer, run_leaves, Ran};
+ghost use Rattle.running.specs.Runs.{run_answer, run_leaves, Ran};
 
 use super::Network;
 use crate::fabric::Fabric;
@@ -17,7 +16,7 @@ use running::{Ending, RunRefusal};
 impl<A: Arbiter, C: WindowClock> Network<A, C> {
     /// Starts the plan, which is used up, with an arbiter and a window clock.
     pub fn start(plan: Plan, arbiter: A, clock: C) -> Network<A, C>
-        ensures { run_of result ≡ started_run (table_of plan) arbiter clock }
+        ensures { run_of result ≡ started_run plan arbiter clock }
     {
         Network {
             fabric: Fabric::new(&plan),
@@ -51,17 +50,10 @@ impl<A: Arbiter, C: WindowClock> Network<A, C> {
         ensures answer { result ≡ cycle_answer A.Arbiter C.WindowClock (run_of self.old) }
         ensures state { run_of self.new ≡ cycle_leaves A.Arbiter C.WindowClock (run_of self.old) }
     {
-        if self.fabric.is_over() {
+        if self.fabric.floor().is_over() {
             return Err(RunRefusal::RunOver);
         }
         Ok(self.make_cycle())
-    }
-
-    /// Whether a bounded run has more to do: a flit is held, and the run is not over.
-    fn goes_on(&self) -> bool
-        ensures { result ≡ not (nothing_held (run_of self.now).net || run_over (run_of self.now).net) }
-    {
-        !(self.fabric.nothing_held() || self.fabric.is_over())
     }
 
     /// Makes cycles until no flit is held, the allowance is used up, or the run is over; answers how many it made
@@ -71,17 +63,18 @@ impl<A: Arbiter, C: WindowClock> Network<A, C> {
         ensures state { run_of self.new ≡ run_leaves A.Arbiter C.WindowClock allowance (run_of self.old) }
         ensures ran { Ran A.Arbiter C.WindowClock allowance (run_of self.old) result }
     {
-        let mut made = 0;
-        while made < allowance && self.goes_on() {
+        for made in 0..allowance {
+            if self.fabric.nothing_held() {
+                return (made, Ending::Empty);
+            }
+            if self.fabric.floor().is_over() {
+                return (made, Ending::Over);
+            }
             self.make_cycle();
-            made += 1;
         }
         if self.fabric.nothing_held() {
-            return (made, Ending::Empty);
+            return (allowance, Ending::Empty);
         }
-        if made == allowance {
-            return (made, Ending::Spent);
-        }
-        (made, Ending::Over)
+        (allowance, Ending::Spent)
     }
 }

@@ -14,21 +14,21 @@ impl<A: Arbiter, C: WindowClock> Network<A, C> {
     pub fn head_frame(&self) -> u64
         ensures { result ≡ (run_of self.now).net.head }
     {
-        self.fabric.head()
+        self.fabric.floor().head()
     }
 
     /// How many cycles are made.
     pub fn cycles(&self) -> u32
         ensures { result ≡ (run_of self.now).net.cycles }
     {
-        self.fabric.cycles()
+        self.fabric.floor().cycles()
     }
 
     /// How many flows there are.
     pub fn flow_count(&self) -> u32
         ensures { result ≡ flows (run_of self.now).net }
     {
-        self.fabric.flow_count()
+        self.fabric.floor().flow_count()
     }
 
     /// How many flits are held, at sources and in buffers.
@@ -42,6 +42,6 @@ impl<A: Arbiter, C: WindowClock> Network<A, C> {
     pub fn counts(&self, flow: u32) -> Option<Counts>
         ensures { result ≡ counts_of (run_of self.now).net flow }
     {
-        self.fabric.counts(flow)
+        self.fabric.floor().counts(flow)
     }
 }

@@ -1,13 +1,13 @@
-ghost use Rattle.std.specs.Prelude.{◌≡◌};
-ghost use Rattle.plan.specs.Sheets.{figures_in};
+ghost use Rattle.std.specs.Prelude.{◌≡◌, ◌≤◌, length};
 
 use super::{FlowFigures, Sheet};
 
 impl Sheet {
     /// The figures of each flow, by its number.
     pub fn flows(&self) -> &[FlowFigures]
-        ensures { result.now ≡ (figures_in self.now).flows }
+        ensures figures { result.now ≡ self.now.flows }
+        ensures few { length result.now ≤ 64 }
     {
-        &self.flows[0..self.count]
+        self.flows.as_slice()
     }
 }

@@ -1,18 +1,17 @@
-ghost use Rattle.std.specs.Prelude.{◌≡◌, ◌≤◌, map, take};
-ghost use Rattle.plan.specs.Plans.{table_of};
-ghost use Rattle.plan.specs.Sheets.{flow_crossings, crossings, flow_figures, busiest, sheet_figures, figures_in, MostLoaded};
-ghost use Rattle.plan.specs.Tables.{flow_of};
+ghost use Rattle.std.specs.Prelude.{◌≡◌, ◌≤◌, map};
+ghost use Rattle.plan.specs.Sheets.{flow_crossings, crossings, flow_figures, busiest, sheet_figures, MostLoaded};
 
 use super::{Plan, ROWS};
 use crate::rows::Row;
 use crate::sheets::{ChannelLoad, FlowFigures, Sheet};
+use lists::FixedList;
 use routes::CHANNELS;
 
 impl Row {
     /// The channel crossings that the flow's flits of one frame can need.
     fn crossings(&self) -> u32
         requires { (self.now.slots ≤ 4096) × ((1 ≤ self.now.largest) × (self.now.largest ≤ 64)) }
-        ensures { result ≡ flow_crossings (flow_of self.now) }
+        ensures { result ≡ flow_crossings self.now }
     {
         (self.slots + self.largest - 1) * self.route.hops()
     }
@@ -20,7 +19,7 @@ impl Row {
     /// The flow's hops, and its slots in a window of frames.
     fn figures(&self, window: u32) -> FlowFigures
         requires { (self.now.slots ≤ 4096) × (window ≤ 8) }
-        ensures { result ≡ flow_figures window (flow_of self.now) }
+        ensures { result ≡ flow_figures window self.now }
     {
         FlowFigures {
             hops: self.route.hops(),
@@ -32,27 +31,23 @@ impl Row {
 impl Plan {
     /// The channel crossings that the flits of one frame can need, over all flows.
     fn crossings(&self) -> u32
-        ensures { result ≡ crossings (table_of self.now).flows }
+        ensures { result ≡ crossings self.now.flows }
     {
-        let rows = self.rows();
-        let mut sum = 0;
-        for row in rows {
-            sum += row.crossings();
-        }
-        sum
+        self.rows().iter().map(|row| row.crossings()).sum()
     }
 
     /// The most loaded channel, the lowest number among equals.
     fn busiest(&self) -> Option<ChannelLoad>
-        ensures { result ≡ busiest (table_of self.now).flows }
+        ensures { result ≡ busiest self.now.flows }
     {
-        if self.flow_count() == 0 {
+        if self.rows.is_empty() {
             return None;
         }
         let mut most = ChannelLoad {
             channel: 0,
             load: self.load(0),
         };
+        // Not `max_by_key`, which names the last among equals.
         for channel in 1..CHANNELS {
             let load = self.load(channel);
             if most.load < load {
@@ -62,33 +57,28 @@ impl Plan {
         Some(most)
     }
 
-    /// The figures of each flow, in the first places.
-    fn lines(&self) -> [FlowFigures; ROWS]
-        ensures { take self.now.count result ≡ map (flow_figures self.now.settings.window) (table_of self.now).flows }
+    /// The figures of each flow, by its number.
+    fn lines(&self) -> FixedList<FlowFigures, ROWS>
+        ensures { result ≡ map (flow_figures self.now.settings.window) self.now.flows }
     {
         let window = self.settings.window;
-        let rows = self.rows();
-        let mut lines = [FlowFigures {
-            hops: 0,
-            inflight: 0,
-        }; ROWS];
-        for (flow, row) in rows.iter().enumerate() {
-            lines[flow] = row.figures(window);
+        let mut lines = FixedList::new();
+        for row in self.rows() {
+            // A sheet has as many places as a plan.
+            let _ = lines.push(row.figures(window));
         }
         lines
     }
 
     /// The sheet of the plan: the figures that others freeze.
     pub fn sheet(&self) -> Sheet
-        ensures figures { figures_in result ≡ sheet_figures (table_of self.now) }
-        ensures most { MostLoaded (table_of self.now).flows result.busiest }
+        ensures figures { result ≡ sheet_figures self.now }
+        ensures most { MostLoaded self.now.flows result.busiest }
     {
-        let flows = self.lines();
         Sheet {
             crossings: self.crossings(),
             busiest: self.busiest(),
-            count: self.count,
-            flows,
+            flows: self.lines(),
         }
     }
 }

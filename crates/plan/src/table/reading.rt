@@ -1,44 +1,51 @@
-ghost use Rattle.std.specs.Prelude.{◌≡◌, map, length};
-ghost use Rattle.plan.specs.Plans.{table_of};
-ghost use Rattle.plan.specs.Tables.{flow_of, load};
+ghost use Rattle.std.specs.Prelude.{◌≡◌, length};
+ghost use Rattle.plan.specs.Tables.{slots_on, load, SoundTable};
 
 use super::Plan;
 use crate::rows::Row;
 use crate::setting::Settings;
 
+impl Row {
+    /// The slots that the flow takes on the channel.
+    fn slots_on(&self, channel: u32) -> u32
+        ensures { result ≡ slots_on channel self.now }
+    {
+        if self.route.crosses(channel) {
+            self.slots
+        } else {
+            0
+        }
+    }
+}
+
 impl Plan {
     /// The settings in force.
     pub fn settings(&self) -> Settings
-        ensures { result ≡ (table_of self.now).settings }
+        ensures value { result ≡ self.now.settings }
+        ensures sound { SoundTable self.now }
     {
         self.settings
     }
 
     /// How many flows are reserved.
     pub fn flow_count(&self) -> u32
-        ensures { result ≡ length (table_of self.now).flows }
+        ensures { result ≡ length self.now.flows }
     {
-        self.count as u32
+        self.rows.len() as u32
     }
 
     /// The reserved flows, in the order of reservation.
     pub fn rows(&self) -> &[Row]
-        ensures { map flow_of result.now ≡ (table_of self.now).flows }
+        ensures value { result.now ≡ self.now.flows }
+        ensures sound { SoundTable self.now }
     {
-        &self.rows[0..self.count]
+        self.rows.as_slice()
     }
 
     /// The slots of all flows routed over the channel.
     pub fn load(&self, channel: u32) -> u32
-        ensures { result ≡ load (table_of self.now).flows channel }
+        ensures { result ≡ load self.now.flows channel }
     {
-        let rows = self.rows();
-        let mut load = 0;
-        for row in rows {
-            if row.route.crosses(channel) {
-                load += row.slots;
-            }
-        }
-        load
+        self.rows().iter().map(|row| row.slots_on(channel)).sum()
     }
 }

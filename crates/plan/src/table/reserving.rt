@@ -1,54 +1,48 @@
 ghost use Rattle.std.specs.Prelude.{◌≡◌, ◌≤◌};
-ghost use Rattle.plan.specs.Plans.{table_of};
-ghost use Rattle.plan.specs.Reserving.{new_table, set_answer, set_table, terms_checked, load_checked, admitted, flow_in, reserve_answer, reserve_table};
+ghost use Rattle.plan.specs.Reserving.{new_table, set_answer, set_table, terms_checked, load_checked, admitted, reserve_answer, reserve_table};
 
 use super::{Plan, ROWS};
 use crate::refusal::PlanRefusal;
 use crate::rows::Row;
 use crate::setting::Settings;
+use lists::FixedList;
 use routes::Route;
 
 impl Plan {
     /// A plan with the smallest settings and no flows.
     pub fn new() -> Plan
-        ensures { table_of result ≡ new_table }
+        ensures { result ≡ new_table }
     {
-        let vacant = Row {
-            slots: 0,
-            largest: 0,
-            route: Route::shortest(),
-        };
         Plan {
             settings: Settings::smallest(),
-            count: 0,
-            rows: [vacant; ROWS],
+            rows: FixedList::new(),
         }
     }
 
     /// Gives the plan other settings and empties it.
     pub fn set(&mut self, settings: Settings) -> Result<(), PlanRefusal>
         ensures answer { result ≡ set_answer settings }
-        ensures state { table_of self.new ≡ set_table (table_of self.old) settings }
+        ensures state { self.new ≡ set_table self.old settings }
     {
         if !settings.fits() {
             return Err(PlanRefusal::Settings);
         }
         self.settings = settings;
-        self.count = 0;
+        self.rows.clear();
         Ok(())
     }
 
     /// Whether there is a row left, and the slots and the largest packet are in range.
     fn check_terms(&self, slots: u32, largest: u32) -> Result<(), PlanRefusal>
-        ensures { result ≡ terms_checked (table_of self.now) slots largest }
+        ensures { result ≡ terms_checked self.now slots largest }
     {
-        if self.flow_count() >= 64 {
+        if self.rows.len() >= ROWS {
             return Err(PlanRefusal::TableFull);
         }
-        if slots < 1 || slots > self.settings.frame {
+        if !(1..=self.settings.frame).contains(&slots) {
             return Err(PlanRefusal::Slots);
         }
-        if largest < 1 || largest > 64 {
+        if !(1..=64).contains(&largest) {
             return Err(PlanRefusal::Packet);
         }
         Ok(())
@@ -57,7 +51,7 @@ impl Plan {
     /// Whether every channel of the route takes the slots; tells the first that does not.
     fn check_load(&self, slots: u32, route: &[u32]) -> Result<(), PlanRefusal>
         requires { slots ≤ self.now.settings.frame }
-        ensures { result ≡ load_checked (table_of self.now) slots route.now }
+        ensures { result ≡ load_checked self.now slots route.now }
     {
         for channel in route {
             if self.load(*channel) + slots > self.settings.frame {
@@ -69,7 +63,7 @@ impl Plan {
 
     /// The row that a reservation takes, or the first check that refuses it.
     fn admitted(&self, slots: u32, largest: u32, route: &[u32]) -> Result<Row, PlanRefusal>
-        ensures { flow_in result ≡ admitted (table_of self.now) slots largest route.now }
+        ensures { result ≡ admitted self.now slots largest route.now }
     {
         self.check_terms(slots, largest)?;
         let path = Route::new(route)?;
@@ -84,13 +78,13 @@ impl Plan {
     /// Reserves slots of every frame for a flow on each channel of its route, and
     /// answers the flow's number.
     pub fn reserve(&mut self, slots: u32, largest: u32, route: &[u32]) -> Result<u32, PlanRefusal>
-        ensures answer { result ≡ reserve_answer (table_of self.old) slots largest route.now }
-        ensures state { table_of self.new ≡ reserve_table (table_of self.old) slots largest route.now }
+        ensures answer { result ≡ reserve_answer self.old slots largest route.now }
+        ensures state { self.new ≡ reserve_table self.old slots largest route.now }
     {
         let row = self.admitted(slots, largest, route)?;
-        let flow = self.count;
-        self.rows[flow] = row;
-        self.count = flow + 1;
-        Ok(flow as u32)
+        let flow = self.flow_count();
+        // There is room, or the row was not admitted.
+        let _ = self.rows.push(row);
+        Ok(flow)
     }
 }

@@ -1,8 +1,10 @@
-ghost use Rattle.std.specs.Prelude.{◌≡◌, ◌≤◌, [], ◌∷◌, length, Some};
-ghost use Rattle.routes.specs.Channels.{known, rises, crosses};
-ghost use Rattle.routes.specs.Routes.{channels_of, routed, route_checked, route_answer, route_refusal_number, route_refusal_text};
+ghost use Rattle.std.specs.Prelude.{◌≡◌, ◌≤◌, true, [], ◌∷◌, length, Some};
+ghost use Rattle.routes.specs.Channels.{known, rises, well_formed, crosses};
+ghost use Rattle.routes.specs.Routes.{route_checked, route_answer, route_refusal_number, route_refusal_text};
 
 use super::Route;
+use lists::FixedList;
+use std::error::Error;
 use std::fmt;
 
 /// How many channels a route may have.
@@ -15,11 +17,11 @@ pub const CHANNELS: u32 = 320;
 #[derive(Clone, Copy, Debug, PartialEq, Eq)]
 pub enum RouteRefusal {
     /// No channel at all, or more than 16.
-    Length,
+    Length = 5,
     /// A channel above 319.
-    UnknownChannel,
+    UnknownChannel = 6,
     /// A channel whose number is not above the one before it.
-    NotRising,
+    NotRising = 7,
 }
 
 impl RouteRefusal {
@@ -27,11 +29,7 @@ impl RouteRefusal {
     pub fn number(self) -> u32
         ensures { result ≡ route_refusal_number self }
     {
-        match self {
-            RouteRefusal::Length => 5,
-            RouteRefusal::UnknownChannel => 6,
-            RouteRefusal::NotRising => 7,
-        }
+        self as u32
     }
 }
 
@@ -47,35 +45,27 @@ impl fmt::Display for RouteRefusal {
     }
 }
 
+impl Error for RouteRefusal {}
+
 /// Whether every channel is below 320.
 fn all_known(channels: &[u32]) -> bool
     ensures { result ≡ known channels.now }
 {
-    for channel in channels {
-        if *channel >= CHANNELS {
-            return false;
-        }
-    }
-    true
+    channels.iter().all(|channel| *channel < CHANNELS)
 }
 
 /// Whether each channel's number is above the one before it.
 fn all_rising(channels: &[u32]) -> bool
     ensures { result ≡ rises channels.now }
 {
-    for next in 1..channels.len() {
-        if channels[next - 1] >= channels[next] {
-            return false;
-        }
-    }
-    true
+    channels.is_sorted_by(|before, after| before < after)
 }
 
 /// The checks of a list of channels, in their order.
 fn checked(channels: &[u32]) -> Result<(), RouteRefusal>
     ensures { result ≡ route_checked channels.now }
 {
-    if channels.is_empty() || channels.len() > MOST_HOPS {
+    if !(1..=MOST_HOPS).contains(&channels.len()) {
         return Err(RouteRefusal::Length);
     }
     if !all_known(channels) {
@@ -90,46 +80,42 @@ fn checked(channels: &[u32]) -> Result<(), RouteRefusal>
 impl Route {
     /// The route over the channels, in the order of crossing.
     pub fn new(channels: &[u32]) -> Result<Route, RouteRefusal>
-        ensures { routed result ≡ route_answer channels.now }
+        ensures { result ≡ route_answer channels.now }
     {
         checked(channels)?;
-        let hops = channels.len();
-        let mut places = [0; MOST_HOPS];
-        places[0..hops].copy_from_slice(channels);
-        Ok(Route {
-            hops,
-            channels: places,
-        })
+        let channels = FixedList::from_slice(channels).ok_or(RouteRefusal::Length)?;
+        Ok(Route { channels })
     }
 
     /// The route over channel 0 alone.
     pub fn shortest() -> Route
-        ensures { channels_of result ≡ 0 ∷ [] }
+        ensures { result ≡ 0 ∷ [] }
     {
-        Route {
-            hops: 1,
-            channels: [0; MOST_HOPS],
-        }
+        let mut channels = FixedList::new();
+        // A new list has places.
+        let _ = channels.push(0);
+        Route { channels }
     }
 
     /// The channels in the order of crossing.
     pub fn channels(&self) -> &[u32]
-        ensures { result.now ≡ channels_of self.now }
+        ensures value { result.now ≡ self.now }
+        ensures sound { well_formed self.now ≡ true }
     {
-        &self.channels[0..self.hops]
+        self.channels.as_slice()
     }
 
     /// How many channels the route crosses.
     pub fn hops(&self) -> u32
-        ensures value { result ≡ length (channels_of self.now) }
+        ensures value { result ≡ length self.now }
         ensures few { result ≤ 16 }
     {
-        self.hops as u32
+        self.channels.len() as u32
     }
 
     /// Whether the route crosses the channel.
     pub fn crosses(&self, channel: u32) -> bool
-        ensures { result ≡ crosses (channels_of self.now) channel }
+        ensures { result ≡ crosses self.now channel }
     {
         self.channels().contains(&channel)
     }

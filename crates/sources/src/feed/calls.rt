@@ -1,17 +1,28 @@
-ghost use Rattle.std.specs.Prelude.{◌≡◌, ◌*◌, [], ◌∷◌, pos, ◌+ℤ◌, ◌≤ℤ◌, sum};
-ghost use Rattle.accounts.specs.Accounts.{ledger, fresh, opened};
+ghost use Rattle.std.specs.Prelude.{◌≡◌, [], ◌∷◌, sum, IfOk, position, nat_lt};
+ghost use Rattle.accounts.specs.Accounts.{fresh, opened};
 ghost use Rattle.routes.specs.Crossings.{crossing};
-ghost use Rattle.routes.specs.Routes.{channels_of};
-ghost use Rattle.sources.specs.Lines.{fresh_line, opened_line, offer_answer, offered, first_place, first_frame, leave_answer, left_by, deliver_answer, delivering, shift_allowed, shifted_line, Waits};
-ghost use Rattle.sources.specs.Sources.{line_of, lined};
+ghost use Rattle.sources.specs.Lines.{fresh_line, opened_line, offer_answer, offered, first_place, first_frame, leave_answer, left_by, delivered_before, delivering, shift_answer, shifted_line, Waits};
+ghost use Rattle.sources.specs.Sources.{SoundLine};
 
-use super::Source;
-use crate::refusal::OfferRefusal;
+use super::{PLACES, Source};
+use crate::refusal::{OfferRefusal, ShiftRefusal};
 use accounts::{Account, AccountRefusal};
 use routes::{Crossing, Route};
 
-/// How many frames can be open together.
-const PLACES: usize = 8;
+/// The first place with a flit.
+fn first_filled(flits: &[u64]) -> Option<usize>
+    ensures { result ≡ position (λ n. nat_lt 0 n) flits.now }
+{
+    flits.iter().position(|count| *count > 0)
+}
+
+impl Default for Source {
+    ghost is_default = { λ s. s ≡ fresh_line (fresh 1 1 2) (0 ∷ []) };
+
+    fn default() -> Source {
+        Source::vacant()
+    }
+}
 
 impl Source {
     /// The source of a new flow with its slots, its largest packet and its route, in a window of frames.
@@ -21,7 +32,8 @@ impl Source {
         window: u32,
         route: Route,
     ) -> Result<Source, AccountRefusal>
-        ensures { lined result ≡ opened_line (opened slots largest window) (channels_of route) }
+        ensures answer { result ≡ opened_line (opened slots largest window) route }
+        ensures sound { IfOk result SoundLine }
     {
         let account = Account::new(slots, largest, window)?;
         Ok(Source::untouched(account, route))
@@ -29,16 +41,17 @@ impl Source {
 
     /// A source for a place where there is no flow.
     pub fn vacant() -> Source
-        ensures { line_of result ≡ fresh_line (fresh 1 1 2) (0 ∷ []) }
+        ensures answer { result ≡ fresh_line (fresh 1 1 2) (0 ∷ []) }
+        ensures sound { SoundLine result }
     {
         let account = Account::smallest();
         Source::untouched(account, Route::shortest())
     }
 
-    /// A source at which nothing waits and nothing is counted, with an account that owes nothing.
+    /// A source at which nothing waits and nothing is counted.
     fn untouched(account: Account, route: Route) -> Source
-        requires { (pos 0 +ℤ account.balance) ≤ℤ pos (account.frame * account.slots) }
-        ensures { line_of result ≡ fresh_line (ledger account) (channels_of route) }
+        requires { SoundLine (fresh_line account route) }
+        ensures { result ≡ fresh_line account route }
     {
         Source {
             account,
@@ -53,23 +66,22 @@ impl Source {
 
     /// How the flow crosses the channel, if it does.
     pub fn crossing(&self, channel: u32) -> Option<Crossing>
-        ensures { result ≡ crossing (line_of self.now).route channel }
+        ensures { result ≡ crossing self.now.route channel }
     {
         self.route.crossing(channel)
     }
 
     /// Offers a packet of `size` flits, which then wait for the frame that is answered.
     pub fn offer(&mut self, size: u32) -> Result<u64, OfferRefusal>
-        ensures answer { result ≡ offer_answer (line_of self.old) size }
-        ensures state { line_of self.new ≡ offered (line_of self.old) size }
+        ensures answer { result ≡ offer_answer self.old size }
+        ensures state { self.new ≡ offered self.old size }
+        ensures sound { SoundLine self.new }
     {
-        let mut account = self.account;
-        match account.offer(size) {
+        match self.account.offer(size) {
             Ok(frame) => {
-                let ahead = (frame - account.head()) as usize;
-                self.account = account;
-                self.waiting[ahead] += size as u64;
-                self.accepted += size as u64;
+                let ahead = (frame - self.account.head()) as usize;
+                self.waiting[ahead] += u64::from(size);
+                self.accepted += u64::from(size);
                 Ok(frame)
             }
             Err(AccountRefusal::WindowSpent) => {
@@ -82,38 +94,33 @@ impl Source {
 
     /// How many flits wait.
     pub fn waiting(&self) -> u64
-        ensures { result ≡ sum (line_of self.now).waiting }
+        ensures value { result ≡ sum self.now.waiting }
+        ensures sound { SoundLine self.now }
     {
         self.accepted - self.sent
     }
 
     /// The place of the earliest flit that waits, counted from the head frame.
     pub fn first_place(&self) -> Option<usize>
-        ensures answer { result ≡ first_place (line_of self.now) }
+        ensures answer { result ≡ first_place self.now }
         ensures waits { Waits self.now.waiting result }
     {
-        for place in 0..PLACES {
-            if self.waiting[place] > 0 {
-                return Some(place);
-            }
-        }
-        None
+        first_filled(&self.waiting)
     }
 
     /// The frame of the earliest flit that waits.
     pub fn first_frame(&self) -> Option<u64>
-        ensures { result ≡ first_frame (line_of self.now) }
+        ensures { result ≡ first_frame self.now }
     {
-        match self.first_place() {
-            Some(place) => Some(self.account.head() + place as u64),
-            None => None,
-        }
+        self.first_place()
+            .map(|place| self.account.head() + place as u64)
     }
 
     /// Lets the earliest flit that waits leave, and tells its number.
     pub fn leave(&mut self) -> Option<u64>
-        ensures answer { result ≡ leave_answer (line_of self.old) }
-        ensures state { line_of self.new ≡ left_by (line_of self.old) }
+        ensures answer { result ≡ leave_answer self.old }
+        ensures state { self.new ≡ left_by self.old }
+        ensures sound { SoundLine self.new }
     {
         let place = self.first_place()?;
         let number = self.sent;
@@ -122,30 +129,31 @@ impl Source {
         Some(number)
     }
 
-    /// Counts a flit that left as delivered; false where all that left have arrived.
-    pub fn deliver(&mut self) -> bool
-        ensures answer { result ≡ deliver_answer (line_of self.old) }
-        ensures state { line_of self.new ≡ delivering (line_of self.old) }
+    /// Counts a flit that left as delivered, and tells how many were delivered before; none where all that left have arrived.
+    pub fn deliver(&mut self) -> Option<u64>
+        ensures answer { result ≡ delivered_before self.old }
+        ensures state { self.new ≡ delivering self.old }
+        ensures sound { SoundLine self.new }
     {
         if self.delivered >= self.sent {
-            return false;
+            return None;
         }
+        let before = self.delivered;
         self.delivered += 1;
-        true
+        Some(before)
     }
 
-    /// Shifts the window; false, with nothing changed, where a flit waits for the head frame or the run is over.
-    pub fn shift(&mut self) -> bool
-        ensures answer { result ≡ shift_allowed (line_of self.old) }
-        ensures state { line_of self.new ≡ shifted_line (line_of self.old) }
+    /// Shifts the window; a refusal changes nothing.
+    pub fn shift(&mut self) -> Result<(), ShiftRefusal>
+        ensures answer { result ≡ shift_answer self.old }
+        ensures state { self.new ≡ shifted_line self.old }
+        ensures sound { SoundLine self.new }
     {
-        let [head, b, c, d, e, f, g, h] = self.waiting;
-        let mut shifted = self.account;
-        if head > 0 || shifted.shift().is_err() {
-            return false;
+        if self.waiting[0] > 0 {
+            return Err(ShiftRefusal::HeadFrameWaits);
         }
-        self.account = shifted;
-        self.waiting = [b, c, d, e, f, g, h, 0];
-        true
+        self.account.shift().map_err(|_| ShiftRefusal::RunOver)?;
+        self.waiting.rotate_left(1);
+        Ok(())
     }
 }

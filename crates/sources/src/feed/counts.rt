@@ -1,26 +1,25 @@
 ghost use Rattle.std.specs.Prelude.{◌≡◌};
-ghost use Rattle.sources.specs.Sources.{line_of};
 
 use super::Source;
 
 impl Source {
     /// How many flits were accepted.
     pub fn accepted(&self) -> u64
-        ensures { result ≡ (line_of self.now).accepted }
+        ensures { result ≡ self.now.accepted }
     {
         self.accepted
     }
 
     /// How many flits were delivered.
     pub fn delivered(&self) -> u64
-        ensures { result ≡ (line_of self.now).delivered }
+        ensures { result ≡ self.now.delivered }
     {
         self.delivered
     }
 
     /// How many packets were refused for a spent window, counted up to 4,294,967,295.
     pub fn refused(&self) -> u32
-        ensures { result ≡ (line_of self.now).refused }
+        ensures { result ≡ self.now.refused }
     {
         self.refused
     }

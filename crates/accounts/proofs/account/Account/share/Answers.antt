@@ -1,13 +1,11 @@
-use Rattle.std.proofs.Common.{arith, rules}
+use Rattle.std.proofs.Common.{arith}
 use Rattle.accounts.proofs.Opened.{fresh_limits}
 use Rattle.accounts.proofs.Shares.{shares}
 use Rattle.accounts.proofs.account.Account.share.Goals as goal
 
-pub returns : goal.returns
-returns c =
+pub returns-clause-holds : goal.returns-clause-holds
+returns-clause-holds c cs first =
     let a = c.args.self.now in
-    let ok = fresh_limits a.slots a.largest a.window a.sound.0 in
-    record {
-      figure = search rules;
-      holds = λ cs first. let q = shares a.slots a.largest a.window a.sound.0.2.0 ok c.args.frames cs first in omega arith;
-    }
+    let terms = c.slack.ensures.terms in
+    let q = shares a.slots a.largest a.window terms.2.0 (fresh_limits a.slots a.largest a.window terms) c.args.frames cs first in
+    omega arith

@@ -1,16 +1,31 @@
-use Rattle.std.proofs.Common.{ℕ, List, sym, subst}
-use Rattle.folds.specs.Orders.{EachOnce}
+use Rattle.std.proofs.Common.{◌≡◌, ℕ, ◌-◌, List, sym, subst, arith, rules}
+use Rattle.std.proofs.lemmas.Iterator.{YieldsList-from_slice, IsFirst-from_position}
+use Rattle.folds.specs.Orders.{EachOnce, moved_to_end}
 use Rattle.folds.proofs.Orders.{moved_once}
-use Rattle.arbiters.proofs.Orders.{same_order}
+use Rattle.arbiters.proofs.Orders.{same_order, turned_is, count_none}
 use Rattle.arbiters.proofs.order.Order.grant.Goals as goal
+use Rattle.arbiters.proofs.order.Order.grant.Goals.{After-rotate_left}
+use borrow.Rule.Slice.PartMut.{put_mid}
 
-pub moved_to_end-self-requires : goal.moved_to_end-self-requires
-moved_to_end-self-requires c = c.args.self.now.ok c.args.flow c.requires
+-- what stands at the place is the flow, so the turn moves it to the end
+turned : (c : After-rotate_left) → put_mid c.in-Some.place (64 - c.in-Some.place) c.args.self.now.flows c.rotate_left.new.self ≡ moved_to_end c.args.flow c.args.self.now.flows
+turned c =
+    let f = c.args.flow in
+    let o = c.args.self.now in
+    let hit = IsFirst-from_position _ _ _ (λ x. x ≡ f) (λ x. x ≡ f → ⊥) c.in-Some.ensures.ran (YieldsList-from_slice o.flows (search rules)) (λ x q k. search rules) (λ x q k. search rules) in
+    turned_is f o.flows _ _ _ (o.ok f c.requires) hit.0 (hit.1 0) (omega arith) c.rotate_left.ensures.after
 
 pub invariant_of-self : goal.invariant_of-self
 invariant_of-self c =
     let o = c.args.self.now in
-    record { ok = subst (λ (fs : List ℕ). EachOnce 64 fs) (sym c.moved_to_end-self.ensures) (moved_once 64 c.args.flow o.flows o.ok) }
+    record { ok = subst (λ (fs : List ℕ). EachOnce 64 fs) (sym (turned c)) (moved_once 64 c.args.flow o.flows o.ok) }
 
-pub returns : goal.returns
-returns c = same_order _ _ c.moved_to_end-self.ensures
+pub returns-in-Some : goal.returns-in-Some
+returns-in-Some c = same_order _ _ (turned (goal.at.returns-in-Some c).After-rotate_left)
+
+pub returns-in_default : goal.returns-in_default
+returns-in_default c =
+    let f = c.args.flow in
+    let o = c.args.self.now in
+    let none = IsFirst-from_position _ _ _ (λ x. x ≡ f) (λ x. x ≡ f → ⊥) c.in_default.ensures.ran (YieldsList-from_slice o.flows (search rules)) (λ x q k. search rules) (λ x q k. search rules) in
+    absurd (omega (arith, o.ok f c.requires, count_none f o.flows none))

@@ -1,26 +1,15 @@
-use Rattle.std.proofs.Common.{◌≡◌, ℕ, ◌≤◌, List, set, sym, refl, ap, ◌∙◌, subst, arith}
-use Rattle.folds.specs.Filled.{filled}
-use Rattle.folds.proofs.Filled.{filled_none, filled_more, filled_all}
+use Rattle.std.proofs.Common.{◌≡◌, ℕ, List, sym, subst, rules}
 use Rattle.folds.specs.Orders.{EachOnce, rising}
 use Rattle.folds.proofs.Orders.{rising_once}
-use Rattle.arbiters.proofs.Orders.{same_order}
+use Rattle.arbiters.proofs.Orders.{same_order, rising_is}
 use Rattle.arbiters.proofs.order.Order.rising.Goals as goal
+use Rattle.arbiters.proofs.order.Order.rising.Goals.{After-from_fn}
 
-pub loop-flow-init : goal.loop-flow-init
-loop-flow-init c = sym (filled_none (λ k. k) 0 64)
-
-pub loop-flow-preserved : goal.loop-flow-preserved
-loop-flow-preserved c =
-    let i = c.loop-flow.flow in
-    ap (λ fs. set fs i i) c.loop-flow.invariant ∙ filled_more (λ k. k) 0 i 64 i c.loop-flow-test.true refl
-
-all_filled : (flows : List ℕ) (i : ℕ) → flows ≡ filled (λ k. k) 0 i 64 → 64 ≤ i → i ≤ 64 → flows ≡ rising 64
-all_filled flows i h l m = h ∙ filled_all (λ k. k) 0 i 64 l m
+rises : (c : After-from_fn) → c.from_fn.result ≡ rising 64
+rises c = rising_is _ 64 c.from_fn.ensures.items.long (λ k d l. let call = c.from_fn.ensures.items.at k d l in search rules)
 
 pub invariant_of-result : goal.invariant_of-result
-invariant_of-result c =
-    let e = all_filled c.loop-flow.flows c.loop-flow.flow c.loop-flow.invariant (omega arith) (omega arith) in
-    record { ok = subst (λ (fs : List ℕ). EachOnce 64 fs) (sym e) (rising_once 64) }
+invariant_of-result c = record { ok = subst (λ (fs : List ℕ). EachOnce 64 fs) (sym (rises c)) (rising_once 64) }
 
 pub returns : goal.returns
-returns c = same_order _ _ (all_filled c.loop-flow.flows c.loop-flow.flow c.loop-flow.invariant (omega arith) (omega arith))
+returns c = same_order _ _ (rises (goal.at.returns c).After-from_fn)

@@ -1,6 +1,6 @@
-use Rattle.std.proofs.Common.{refl, rules}
+use Rattle.std.proofs.Common.{refl}
 use Rattle.lanes.proofs.Held.{lane_empty}
 use Rattle.lanes.proofs.buffers.Buffers.new.Goals as goal
 
-pub returns : goal.returns
-returns c = record { state = lane_empty _ c.new.result c.new.ensures refl; frames = search rules }
+pub returns-clause-state : goal.returns-clause-state
+returns-clause-state c = lane_empty _ _ c.new.ensures refl

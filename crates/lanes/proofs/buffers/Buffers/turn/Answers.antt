@@ -1,6 +1,8 @@
-use Rattle.std.proofs.Common.{refl, rules}
-use Rattle.lanes.proofs.Held.{lane_turned}
+use Rattle.std.proofs.Common.{rules}
+use Rattle.lanes.specs.Rings.{lane_of}
+use Rattle.lanes.proofs.Rings.{queue_turned}
 use Rattle.lanes.proofs.buffers.Buffers.turn.Goals as goal
 
-pub returns : goal.returns
-returns c = record { state = lane_turned c.args.self.now _ refl refl (search rules); frames = refl }
+pub returns-clause-state : goal.returns-clause-state
+unfolding lane_of
+returns-clause-state c = search (rules, queue_turned)

@@ -4,4 +4,4 @@ use Rattle.lists.proofs.fixed.FixedList.from_slice.Goals as goal
 
 -- the items stand in front of blanks
 pub invariant_of-result : goal.invariant_of-result
-invariant_of-result g c = rw c.blank-places.ensures (filled-front _ _ _ _ (search rules) (omega (arith, c.if-count.false)))
+invariant_of-result g c = rw c.blank-places.ensures (filled-front _ _ (search rules) (omega arith))

@@ -1,9 +1,8 @@
-use Rattle.std.proofs.Common.{rules}
 use Rattle.mesh.proofs.Numbers.{unambiguous}
 use Rattle.mesh.proofs.square.Mesh.channel.Goals as goal
 
-pub returns-then-leads : goal.returns-then-leads
-returns-then-leads c = record { answer = search rules; unambiguous = unambiguous _ }
+pub returns-then-leads-clause-unambiguous : goal.returns-then-leads-clause-unambiguous
+returns-then-leads-clause-unambiguous c = unambiguous _
 
-pub returns-else-contains : goal.returns-else-contains
-returns-else-contains c = record { answer = search rules; unambiguous = unambiguous _ }
+pub returns-else-contains-clause-unambiguous : goal.returns-else-contains-clause-unambiguous
+returns-else-contains-clause-unambiguous c = unambiguous _

@@ -1,53 +1,54 @@
-use Rattle.std.proofs.Common.{◌≡◌, ◌-◌, ◌<◌, ◌≤◌, ◌++◌, length, drop, refl, ap, arith, rules}
+use Rattle.std.proofs.Common.{◌≡◌, ◌-◌, ◌++◌, drop, ap, length-take-le, arith, rules}
 use Rattle.mesh.specs.Numbering.{leaving}
 use Rattle.mesh.specs.Routes.{route}
 use Rattle.mesh.specs.Walks.{towards, onward}
 use Rattle.mesh.proofs.Walking.{walk}
-use Rattle.mesh.proofs.Writing.{counted, too_short, long_enough, next_inside, written_more, rest_more, written_all, travelled}
+use Rattle.mesh.proofs.Writing.{Counted, counted, too_short, long_enough, next_inside, written_more, written_all, travelled}
 use Rattle.mesh.proofs.square.Mesh.route.Goals as goal
+use Rattle.mesh.proofs.square.Mesh.route.Goals.{In_ok-hops}
 
-pub returns-then-channels-hops : goal.returns-then-channels-hops
-returns-then-channels-hops c =
-    let hops = c.in_ok-hops.field-0 in
-    let n = counted c.args.self.now.side c.args.from c.args.to hops c.in_ok-hops.ensures in
-    let short : length c.args.channels.now < hops = omega arith in
-    record { answer = too_short _ _ _ _ _ n short; list = search rules; travels = tt }
+-- the hops were counted
+nodes : (c : In_ok-hops) → Counted c.args.self.now c.args.from c.args.to c.in_ok-hops.field-0
+nodes c = counted _ c.args.from c.args.to _ c.in_ok-hops.ensures.answer
 
-pub loop-place-init : goal.loop-place-init
-loop-place-init c =
-    let k = c.args.self.now.side in
-    let hops = c.in_ok-hops.field-0 in
-    let n = counted k c.args.from c.args.to hops c.in_ok-hops.ensures in
-    let all : hops - 0 ≡ hops = omega arith in
-    (n.starts, ap (walk k c.args.from c.args.to) all, refl)
+pub returns-then-channels-hops-clause-answer : goal.returns-then-channels-hops-clause-answer
+returns-then-channels-hops-clause-answer c =
+    too_short _ _ _ _ _ (nodes (goal.at.returns-then-channels-hops-clause-answer c).In_ok-hops) c.if-channels-hops.true
 
-pub loop-place-preserved : goal.loop-place-preserved
-loop-place-preserved c =
-    let k = c.args.self.now.side in
-    let here = c.loop-place.here in
+pub loop-channel-init : goal.loop-channel-init
+loop-channel-init c =
+    let all : c.in_ok-hops.field-0 - 0 ≡ c.in_ok-hops.field-0 = omega arith in
+    record {
+      on_the_mesh = (nodes (goal.at.loop-channel-init c).In_ok-hops).starts;
+      written = ap (walk c.args.self.now c.args.from c.args.to) all;
+    }
+
+pub loop-channel-preserved : goal.loop-channel-preserved
+loop-channel-preserved c =
+    let k = c.args.self.now in
+    let here = c.loop-channel.here in
     let to = c.args.to in
-    let n = counted k c.args.from to c.in_ok-hops.field-0 c.in_ok-hops.ensures in
     let on : c.way_on-heading.result.1 ≡ onward here to = search rules in
     let number : c.leaving.result ≡ leaving k here (towards here to) = search rules in
-    let room : c.in_ok-hops.field-0 ≤ length c.loop-place.channels = omega arith in (
-      next_inside k here to _ on c.loop-place.invariant.0 n.ends,
-      written_more k _ _ _ here to _ _ _ on number c.loop-place-test.true room c.loop-place.invariant.1,
-      rest_more c.loop-place.place c.leaving.result c.loop-place.channels c.args.channels.now c.loop-place.invariant.2,
-    )
+    let lent = length-take-le _ _ c.if-channels-hops.false in
+    record {
+      on_the_mesh = next_inside k here to _ on c.loop-channel.invariant.on_the_mesh (nodes (goal.at.loop-channel-preserved c).In_ok-hops).ends;
+      written = written_more k c.in_ok-hops.field-0 _ _ here to _ _ _ on number (omega arith) (omega arith) c.loop-channel.invariant.written;
+    }
 
 pub returns : goal.returns
 returns c =
-    let k = c.args.self.now.side in
+    let k = c.args.self.now in
     let from = c.args.from in
     let to = c.args.to in
     let hops = c.in_ok-hops.field-0 in
-    let n = counted k from to hops c.in_ok-hops.ensures in
-    let room : hops ≤ length c.args.channels.now = omega arith in
-    let ended : c.loop-place.place ≡ hops = omega arith in
-    let list : c.loop-place.channels ≡ route k from to ++ drop hops c.args.channels.now =
-    written_all k hops from to c.loop-place.here _ _ _ n ended c.loop-place.invariant.1 c.loop-place.invariant.2 in
+    let n = nodes (goal.at.returns c).In_ok-hops in
+    let lent = length-take-le _ _ c.if-channels-hops.false in
+    let written = written_all k hops from to _ _ _ n (omega arith) (omega arith) c.loop-channel.invariant.written in
+    let list : c.loop-channel.channel-items ++ drop hops c.args.channels.now ≡ route k from to ++ drop hops c.args.channels.now =
+    ap (λ cs. cs ++ drop hops c.args.channels.now) written in
     record {
-      answer = long_enough k from to _ hops n room;
+      answer = long_enough k from to _ hops n c.if-channels-hops.false;
       list = list;
-      travels = travelled k hops from to _ _ c.args.self.now.few n list;
+      travels = travelled k hops from to _ _ c.in_ok-hops.ensures.within.few n list;
     }

@@ -1,51 +1,32 @@
-use Rattle.std.proofs.Common.{ap}
-use Rattle.network.specs.Landings.{ends}
-use Rattle.network.proofs.Advancing.{after, marked, some_left, last_kept, on_kept, low_after, departs_some}
+use Rattle.network.specs.Floors.{net_of}
+use Rattle.network.proofs.Advancing.{Advanced, some_held, moved_on}
 use Rattle.network.proofs.fabric.Fabric.advance.Goals as goal
+use Rattle.network.proofs.fabric.Fabric.advance.Goals.{After-land}
 
-pub returns-in_default-depart : goal.returns-in_default-depart
-returns-in_default-depart c =
-    let p = c.requires in
-    departs_some c.args.self.now c.args.channel c.args.grant c.in-Some.crossing p.0 p.1.0 p.1.1.0 p.1.1.1 c.in-Some.ensures c.in_default-depart.ensures.answer
-
-pub land-requires : goal.land-requires
-land-requires c =
-    let p = c.requires in
-    (c.depart.ensures.sized, low_after c.args.self.now c.args.channel c.args.grant c.in-Some.crossing p.0 p.1.0 p.1.1.0 p.1.1.1 c.in-Some.ensures c.depart.new.self c.depart.ensures.state c.depart.ensures.sized)
+-- the flit has departed and landed
+advanced : (c : After-land) → Advanced (net_of c.args.self.now.floor) c.args.self.now.held c.args.self.now.used c.args.channel c.args.grant c.in-Some.crossing (net_of c.land.new.self)
+advanced c =
+    let f = c.args.self.now in
+    moved_on (net_of f.floor) f.held f.used c.args.channel c.args.grant c.in-Some.crossing f.sound f.marked c.requires.asked c.requires.in_window c.in-Some.ensures
+    (net_of c.depart.new.self) (net_of c.land.new.self) c.in-Some-depart.flit c.depart.ensures.state c.in-Some-depart.ensures.answer c.land.ensures
 
 pub overflow_sub-self : goal.overflow_sub-self
 overflow_sub-self c =
-    let p = c.requires in
-    let d = c.depart.ensures in
-    let l = c.land.ensures in
-    some_left c.args.self.now c.args.channel c.args.grant c.in-Some.crossing p.0 p.1.0 p.1.1.0 p.1.1.1 c.in-Some.ensures c.depart.new.self c.land.new.self c.in-Some-depart.flit d.state d.sized d.held d.used c.in-Some-depart.ensures.answer l.state l.sized l.held l.used
+    let f = c.args.self.now in
+    some_held (net_of f.floor) f.held f.used c.args.channel c.args.grant c.in-Some.crossing f.sound f.marked c.requires.asked c.requires.in_window c.in-Some.ensures
 
-pub returns-then-crossing : goal.returns-then-crossing
-returns-then-crossing c =
-    let p = c.requires in
-    let d = c.depart.ensures in
-    let l = c.land.ensures in
-    record {
-      answer = ap ends c.in-Some.ensures;
-      state = after c.args.self.now c.args.channel c.args.grant c.in-Some.crossing p.0 p.1.0 p.1.1.0 p.1.1.1 c.in-Some.ensures c.depart.new.self c.land.new.self c.in-Some-depart.flit d.state d.sized d.held d.used c.in-Some-depart.ensures.answer l.state l.sized l.held l.used;
-      kept = (
-        l.sized,
-        marked c.args.self.now c.args.channel c.args.grant c.in-Some.crossing p.0 p.1.0 p.1.1.0 p.1.1.1 c.in-Some.ensures c.depart.new.self c.land.new.self c.in-Some-depart.flit d.state d.sized d.held d.used c.in-Some-depart.ensures.answer l.state l.sized l.held l.used,
-        last_kept c.args.self.now c.args.channel c.args.grant c.in-Some.crossing p.0 p.1.0 p.1.1.0 p.1.1.1 c.in-Some.ensures c.depart.new.self c.land.new.self c.in-Some-depart.flit d.state d.sized d.held d.used c.in-Some-depart.ensures.answer l.state l.sized l.held l.used c.if-crossing.true,
-      );
-    }
+pub invariant_of-self-then-crossing : goal.invariant_of-self-then-crossing
+invariant_of-self-then-crossing c =
+    let a = advanced (goal.at.invariant_of-self-then-crossing c).After-land in
+    record { marked = a.marked; sound = a.last c.if-crossing.true }
 
-pub returns-else-crossing : goal.returns-else-crossing
-returns-else-crossing c =
-    let p = c.requires in
-    let d = c.depart.ensures in
-    let l = c.land.ensures in
-    record {
-      answer = ap ends c.in-Some.ensures;
-      state = after c.args.self.now c.args.channel c.args.grant c.in-Some.crossing p.0 p.1.0 p.1.1.0 p.1.1.1 c.in-Some.ensures c.depart.new.self c.land.new.self c.in-Some-depart.flit d.state d.sized d.held d.used c.in-Some-depart.ensures.answer l.state l.sized l.held l.used;
-      kept = (
-        l.sized,
-        marked c.args.self.now c.args.channel c.args.grant c.in-Some.crossing p.0 p.1.0 p.1.1.0 p.1.1.1 c.in-Some.ensures c.depart.new.self c.land.new.self c.in-Some-depart.flit d.state d.sized d.held d.used c.in-Some-depart.ensures.answer l.state l.sized l.held l.used,
-        on_kept c.args.self.now c.args.channel c.args.grant c.in-Some.crossing p.0 p.1.0 p.1.1.0 p.1.1.1 c.in-Some.ensures c.depart.new.self c.land.new.self c.in-Some-depart.flit d.state d.sized d.held d.used c.in-Some-depart.ensures.answer l.state l.sized l.held l.used c.if-crossing.false,
-      );
-    }
+pub invariant_of-self-else-crossing : goal.invariant_of-self-else-crossing
+invariant_of-self-else-crossing c =
+    let a = advanced (goal.at.invariant_of-self-else-crossing c).After-land in
+    record { marked = a.marked; sound = a.on c.if-crossing.false }
+
+pub returns-then-crossing-clause-state : goal.returns-then-crossing-clause-state
+returns-then-crossing-clause-state c = (advanced (goal.at.returns-then-crossing-clause-state c).After-land).after
+
+pub returns-else-crossing-clause-state : goal.returns-else-crossing-clause-state
+returns-else-crossing-clause-state c = (advanced (goal.at.returns-else-crossing-clause-state c).After-land).after

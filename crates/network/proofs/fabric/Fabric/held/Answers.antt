@@ -1,44 +1,17 @@
 use Rattle.std.proofs.Common.{◌∙◌, arith}
+use Rattle.std.proofs.lemmas.Iterator.{YieldsList-from_slice}
+use Rattle.std.proofs.lemmas.Iterator.Consumers.{fits_from_yields_list, sum_from_yields_List}
 use Rattle.running.proofs.Tallying.{held_sum}
-use Rattle.network.specs.Fabrics.{net_of}
-use Rattle.network.proofs.Holding.{sum_eight}
-use Rattle.network.proofs.Offering.{few_held}
+use Rattle.network.proofs.Offering.{few_together}
+use Rattle.network.specs.Floors.{net_of}
 use Rattle.network.proofs.fabric.Fabric.held.Goals as goal
 
-pub overflow_add-result : goal.overflow_add-result
-overflow_add-result c =
+pub sum-requires-clause-fits : goal.sum-requires-clause-fits
+sum-requires-clause-fits c =
     let f = c.args.self.now in
-    omega (arith, few_held f 0 c.requires, few_held f 1 c.requires, few_held f 2 c.requires, few_held f 3 c.requires, few_held f 4 c.requires, few_held f 5 c.requires, few_held f 6 c.requires, few_held f 7 c.requires)
-
-pub overflow_add-result-2 : goal.overflow_add-result-2
-overflow_add-result-2 c =
-    let f = c.args.self.now in
-    omega (arith, few_held f 0 c.requires, few_held f 1 c.requires, few_held f 2 c.requires, few_held f 3 c.requires, few_held f 4 c.requires, few_held f 5 c.requires, few_held f 6 c.requires, few_held f 7 c.requires)
-
-pub overflow_add-result-3 : goal.overflow_add-result-3
-overflow_add-result-3 c =
-    let f = c.args.self.now in
-    omega (arith, few_held f 0 c.requires, few_held f 1 c.requires, few_held f 2 c.requires, few_held f 3 c.requires, few_held f 4 c.requires, few_held f 5 c.requires, few_held f 6 c.requires, few_held f 7 c.requires)
-
-pub overflow_add-result-4 : goal.overflow_add-result-4
-overflow_add-result-4 c =
-    let f = c.args.self.now in
-    omega (arith, few_held f 0 c.requires, few_held f 1 c.requires, few_held f 2 c.requires, few_held f 3 c.requires, few_held f 4 c.requires, few_held f 5 c.requires, few_held f 6 c.requires, few_held f 7 c.requires)
-
-pub overflow_add-result-5 : goal.overflow_add-result-5
-overflow_add-result-5 c =
-    let f = c.args.self.now in
-    omega (arith, few_held f 0 c.requires, few_held f 1 c.requires, few_held f 2 c.requires, few_held f 3 c.requires, few_held f 4 c.requires, few_held f 5 c.requires, few_held f 6 c.requires, few_held f 7 c.requires)
-
-pub overflow_add-result-6 : goal.overflow_add-result-6
-overflow_add-result-6 c =
-    let f = c.args.self.now in
-    omega (arith, few_held f 0 c.requires, few_held f 1 c.requires, few_held f 2 c.requires, few_held f 3 c.requires, few_held f 4 c.requires, few_held f 5 c.requires, few_held f 6 c.requires, few_held f 7 c.requires)
-
-pub overflow_add-result-7 : goal.overflow_add-result-7
-overflow_add-result-7 c =
-    let f = c.args.self.now in
-    omega (arith, few_held f 0 c.requires, few_held f 1 c.requires, few_held f 2 c.requires, few_held f 3 c.requires, few_held f 4 c.requires, few_held f 5 c.requires, few_held f 6 c.requires, few_held f 7 c.requires)
+    fits_from_yields_list c.iter.result _ (YieldsList-from_slice f.held (cc)) (omega (arith, few_together (net_of f.floor) f.held f.sound f.floor.lines))
 
 pub returns : goal.returns
-returns c = let f = c.args.self.now in sum_eight f.held c.requires.2.5.0 ∙ held_sum (net_of f) f.held c.requires.2
+returns c =
+    let f = c.args.self.now in
+    sum_from_yields_List c.iter.result _ c.sum.ensures.ran (YieldsList-from_slice f.held (cc)) ∙ held_sum (net_of f.floor) f.held f.sound

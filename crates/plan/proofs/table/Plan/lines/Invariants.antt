@@ -1,7 +1,6 @@
-use Rattle.std.proofs.Common.{◌≡◌, map, length, take}
+use Rattle.std.proofs.Common.{◌≡◌, map, take}
 use Rattle.plan.specs.Sheets.{flow_figures}
-use Rattle.plan.specs.Tables.{flow_of}
 use Rattle.plan.proofs.table.Plan.lines.Given as goal
 
-abbrev pub invariant-loop-flow : goal.invariant-loop-flow
-invariant-loop-flow l = (length l.lines ≡ 64) × (take l.flow l.lines ≡ map (flow_figures l.window) (map flow_of (take l.flow l.rows)))
+abbrev pub invariant-loop-row : goal.invariant-loop-row
+invariant-loop-row l = l.lines ≡ map (flow_figures l.window) (take l.row-index l.row-items)

@@ -1,17 +1,12 @@
 use Rattle.std.proofs.Common.{rules}
-use Rattle.std.proofs.lemmas.List.{length-set}
-use Rattle.plan.proofs.Tables.{flows_counted}
-use Rattle.plan.proofs.Admitted.{room_left, pushed, fit_after, loaded_after}
+use Rattle.plan.proofs.Admitted.{flows_pushed, reserved_sound}
 use Rattle.plan.proofs.table.Plan.reserve.Goals as goal
 
-pub listed : goal.listed
-listed c = search (rules, room_left)
-
-pub bounds-self-flow : goal.bounds-self-flow
-bounds-self-flow c = search (rules, room_left)
-
 pub invariant_of-self : goal.invariant_of-self
-invariant_of-self c = search (rules, length-set, room_left, fit_after, loaded_after)
+invariant_of-self c =
+    let a = c.args in
+    let p = c.self in
+    search (rules, c.push.ensures.state, reserved_sound p.inside.settings p.inside.rows a.slots a.largest a.route.now c.in_ok-row.row p.view_is c.in_ok-row.ensures p.invariant)
 
 pub returns : goal.returns
-returns c = search (rules, flows_counted, pushed)
+returns c = search (rules, flows_pushed)

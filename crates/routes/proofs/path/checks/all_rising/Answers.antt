@@ -1,12 +1,7 @@
-use Rattle.std.proofs.Common.{rules}
-use Rattle.routes.proofs.Channels.{rises_more, rises_step, rises_end}
+use Rattle.std.proofs.Common.{ltb, rules}
+use Rattle.std.proofs.lemmas.List.Sorted.{answers_always}
+use Rattle.routes.proofs.Channels.{sorted_rises}
 use Rattle.routes.proofs.path.checks.all_rising.Goals as goal
 
-pub returns-then-channels-next : goal.returns-then-channels-next
-returns-then-channels-next c = search (rules, rises_more)
-
-pub loop-next-preserved : goal.loop-next-preserved
-loop-next-preserved c = search (rules, rises_step)
-
 pub returns : goal.returns
-returns c = search (rules, rises_end)
+returns c = sorted_rises _ _ (c.is_sorted_by.ensures.cases ltb (answers_always _ _ _ (λ f a r f' k. search rules)))

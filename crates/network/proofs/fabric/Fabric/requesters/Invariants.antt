@@ -1,8 +1,0 @@
-use Rattle.std.proofs.Common.{◌≡◌, false}
-use Rattle.folds.specs.Filled.{filled}
-use Rattle.running.specs.Requests.{requests}
-use Rattle.network.specs.Fabrics.{net_of}
-use Rattle.network.proofs.fabric.Fabric.requesters.Given as goal
-
-abbrev pub invariant-loop-flow : goal.invariant-loop-flow
-invariant-loop-flow l = l.flows.members ≡ filled (requests (net_of l.self) l.channel l.ahead) false l.flow 64

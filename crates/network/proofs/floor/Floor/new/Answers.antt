@@ -1,0 +1,12 @@
+use Rattle.std.proofs.Common.{ap, ◌∙◌, arith}
+use Rattle.plan.proofs.Ranges.{window_range}
+use Rattle.plan.specs.declared.setting.Settings.{Settings}
+use Rattle.network.proofs.Starting.{not_clamped}
+use Rattle.network.proofs.floor.Floor.new.Goals as goal
+
+pub invariant_of-result : goal.invariant_of-result
+invariant_of-result c =
+    let s = c.settings-settings.ensures in
+    let v = window_range c.args.plan.now.settings s.sound.set in
+    let w = ap (λ (x : Settings). x.window) s.value in
+    record { ring = c.new.ensures.frames ∙ not_clamped c.settings-settings.result.window (omega (arith, w, v)) (omega (arith, w, v)); lines = c.open_sources.ensures.sound }
