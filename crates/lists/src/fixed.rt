@@ -1,5 +1,6 @@
 ghost use Rattle.std.specs.Prelude.{◌≡◌, ◌≤◌, ◌==◌, [], length};
 ghost use Rattle.lists.specs.Lists.{placed, first_of, rest_of, push_answer, pushed};
+ghost use Rattle.lists.specs.Blanks.{filled};
 
 use crate::blank::Blank;
 use std::alloc::AllocError;
@@ -77,7 +78,8 @@ impl<T: Blank, const N: usize> FixedList<T, N> {
 
     /// Whether there is no item.
     pub fn is_empty(&self) -> bool
-        ensures { result ≡ (length self.now == 0) }
+        ensures value { result ≡ (length self.now == 0) }
+        ensures within { length self.now ≤ N }
     {
         self.as_slice().is_empty()
     }
@@ -90,9 +92,17 @@ impl<T: Blank, const N: usize> FixedList<T, N> {
         &self.places[..self.count]
     }
 
+    /// All places: the items, and blanks behind them.
+    pub fn places(&self) -> &[T]
+        ensures { result.now ≡ filled T.blank N self.now }
+    {
+        &self.places[..]
+    }
+
     /// The first item.
     pub fn front(&self) -> Option<T>
-        ensures { result ≡ first_of self.now }
+        ensures answer { result ≡ first_of self.now }
+        ensures within { length self.now ≤ N }
     {
         self.as_slice().first().copied()
     }
@@ -101,6 +111,7 @@ impl<T: Blank, const N: usize> FixedList<T, N> {
     pub fn push(&mut self, item: T) -> Result<(), T>
         ensures answer { result ≡ push_answer N self.old item }
         ensures state { self.new ≡ pushed N self.old item }
+        ensures within { length self.new ≤ N }
     {
         if self.count >= N {
             return Err(item);
@@ -114,6 +125,7 @@ impl<T: Blank, const N: usize> FixedList<T, N> {
     pub fn pop(&mut self) -> Option<T>
         ensures answer { result ≡ first_of self.old }
         ensures state { self.new ≡ rest_of self.old }
+        ensures within { length self.new ≤ N }
     {
         let first = self.front()?;
         self.places[0] = T::blank();
@@ -126,6 +138,9 @@ impl<T: Blank, const N: usize> FixedList<T, N> {
     pub fn clear(&mut self)
         ensures { self.new ≡ [] }
     {
-        *self = FixedList::new();
+        for place in &mut self.places[..self.count] {
+            *place = T::blank();
+        }
+        self.count = 0;
     }
 }
