@@ -1,5 +1,6 @@
--- What a list that passed the checks is, and which list passes them.
-use Rattle.std.proofs.Common.{◌≡◌, ℕ, ◌≤◌, Bool, true, false, cond, ◌&&◌, leb, List, length, Ok, Err, Result, refl, arith}
+-- What a list that passed the checks is, which list passes them, and a list that was copied to the front of another.
+use Rattle.std.proofs.Common.{◌≡◌, ℕ, ◌≤◌, Bool, true, false, cond, ◌&&◌, leb, List, ◌++◌, length, take, Ok, Err, Result, refl, ap, ◌∙◌, arith}
+use Rattle.std.proofs.lemmas.List.{take_at}
 use Rattle.std.proofs.lemmas.Bool.{and_parts, leb-true}
 use Rattle.routes.specs.Channels.{few_hops, known, rises, well_formed}
 use Rattle.routes.specs.Routes.{route_checked}
@@ -19,6 +20,9 @@ pub well_formed_few : (cs : List ℕ) → well_formed cs ≡ true → length cs 
 well_formed_few cs e =
     let few = (and_parts (few_hops cs) (known cs && rises cs) e).0 in
     leb-true (length cs) 16 (and_parts (leb 1 (length cs)) (leb (length cs) 16) few).1
+
+pub copied : (cs xs rest : List ℕ) → xs ≡ cs → take (length cs) (xs ++ rest) ≡ cs
+copied cs xs rest e = take_at xs rest (length cs) (ap length e) ∙ e
 
 -- a list that passes each of the checks passes them all
 pub passes : (cs : List ℕ) → few_hops cs ≡ true → known cs ≡ true → rises cs ≡ true → route_checked cs ≡ Ok tt

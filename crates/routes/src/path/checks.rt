@@ -1,4 +1,4 @@
-ghost use Rattle.std.specs.Prelude.{◌≡◌, ◌≤◌, true, [], ◌∷◌, length, Some};
+ghost use Rattle.std.specs.Prelude.{◌≡◌, ◌≤◌, true, [], ◌∷◌, length, Some, IfOk};
 ghost use Rattle.routes.specs.Channels.{known, rises, well_formed, crosses};
 ghost use Rattle.routes.specs.Routes.{route_checked, route_answer, route_refusal_number, route_refusal_text};
 
@@ -80,7 +80,8 @@ fn checked(channels: &[u32]) -> Result<(), RouteRefusal>
 impl Route {
     /// The route over the channels, in the order of crossing.
     pub fn new(channels: &[u32]) -> Result<Route, RouteRefusal>
-        ensures { result ≡ route_answer channels.now }
+        ensures answer { result ≡ route_answer channels.now }
+        ensures sound { IfOk result (λ cs. well_formed cs ≡ true) }
     {
         checked(channels)?;
         let channels = FixedList::from_slice(channels).ok_or(RouteRefusal::Length)?;
@@ -89,7 +90,8 @@ impl Route {
 
     /// The route over channel 0 alone.
     pub fn shortest() -> Route
-        ensures { result ≡ 0 ∷ [] }
+        ensures value { result ≡ 0 ∷ [] }
+        ensures sound { well_formed result ≡ true }
     {
         let mut channels = FixedList::new();
         // A new list has places.
@@ -109,13 +111,15 @@ impl Route {
     pub fn hops(&self) -> u32
         ensures value { result ≡ length self.now }
         ensures few { result ≤ 16 }
+        ensures sound { well_formed self.now ≡ true }
     {
         self.channels.len() as u32
     }
 
     /// Whether the route crosses the channel.
     pub fn crosses(&self, channel: u32) -> bool
-        ensures { result ≡ crosses self.now channel }
+        ensures answer { result ≡ crosses self.now channel }
+        ensures sound { well_formed self.now ≡ true }
     {
         self.channels().contains(&channel)
     }

@@ -1,4 +1,5 @@
-ghost use Rattle.std.specs.Prelude.{◌≡◌, length};
+ghost use Rattle.std.specs.Prelude.{◌≡◌, true, length};
+ghost use Rattle.routes.specs.Channels.{well_formed};
 ghost use Rattle.routes.specs.Crossings.{hop, crossing, Below};
 
 use super::Route;
@@ -15,7 +16,8 @@ fn hop_of(channels: &[u32], channel: u32) -> Option<usize>
 impl Route {
     /// How the route crosses the channel, if it does.
     pub fn crossing(&self, channel: u32) -> Option<Crossing>
-        ensures { result ≡ crossing self.now channel }
+        ensures answer { result ≡ crossing self.now channel }
+        ensures sound { well_formed self.now ≡ true }
     {
         let channels = self.channels();
         let hop = hop_of(channels, channel)?;
