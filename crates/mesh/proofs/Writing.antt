@@ -1,6 +1,6 @@
 -- A walk that is written place by place into a lent list.
-use Rattle.std.proofs.Common.{◌≡◌, ℕ, ◌+◌, ◌-◌, ◌<◌, ◌≤◌, Bool, true, false, cond, ◌&&◌, leb, List, [], ◌∷◌, ◌++◌, length, take, set, Ok, Err, sym, refl, ap, ◌∙◌, subst, arith}
-use Rattle.std.proofs.lemmas.List.{append-nil, append_assoc, take_all, take_at, take_more_set}
+use Rattle.std.proofs.Common.{◌≡◌, ℕ, ◌+◌, ◌-◌, ◌<◌, ◌≤◌, Bool, true, false, cond, ◌&&◌, leb, List, [], ◌∷◌, ◌++◌, length, take, drop, set, Ok, Err, sym, refl, ap, ◌∙◌, subst, arith}
+use Rattle.std.proofs.lemmas.List.{append-nil, append_assoc, take_all, take_at, take_more_set, drop-set-lt, drop-drop}
 use Rattle.std.proofs.lemmas.Bool.{and_parts, and_from, le-leb, lt-leb, cond-true, cond-false}
 use Rattle.mesh.specs.Numbering.{inside, leaving}
 use Rattle.mesh.specs.Routes.{route, hops, hops_answer, route_answer}
@@ -49,7 +49,7 @@ next_inside k a b next e i j =
     ap (inside k) e ∙ inside_from k (onward a b) p.0 p.1
 
 pub written_more : (k n i c : ℕ) (a b next : Node) (cs all : List ℕ) →
-    next ≡ onward a b → c ≡ leaving k a (towards a b) → i < n → length cs ≡ n → take i cs ++ walk k a b (n - i) ≡ all →
+    next ≡ onward a b → c ≡ leaving k a (towards a b) → i < n → n ≤ length cs → take i cs ++ walk k a b (n - i) ≡ all →
     take (i + 1) (set cs i c) ++ walk k next b (n - (i + 1)) ≡ all
 written_more k n i c a b next cs all p q l m e =
     let rest = walk k next b (n - (i + 1)) in
@@ -59,6 +59,10 @@ written_more k n i c a b next cs all p q l m e =
     ∙ append_assoc (take i cs) (c ∷ []) rest
     ∙ sym (ap (λ t. take i cs ++ t) left)
     ∙ e
+
+-- and what lies behind that place stays
+pub rest_more : (i c : ℕ) (cs old : List ℕ) → drop i cs ≡ drop i old → drop (i + 1) (set cs i c) ≡ drop (i + 1) old
+rest_more i c cs old e = drop-set-lt (i + 1) cs i c (omega arith) ∙ sym (drop-drop 1 i cs) ∙ ap (drop 1) e ∙ drop-drop 1 i old
 
 -- all places are written
 pub written_all : (k n : ℕ) (a b h : Node) (i : ℕ) (cs : List ℕ) →

@@ -33,7 +33,8 @@ impl Model for Mesh {
 impl Mesh {
     /// The mesh of the side.
     pub fn new(side: u32) -> Result<Mesh, MeshRefusal>
-        ensures { result ≡ mesh_answer side }
+        ensures answer { result ≡ mesh_answer side }
+        ensures within { IfOk result IsSide }
     {
         if !(1..=LONGEST_SIDE).contains(&side) {
             return Err(MeshRefusal::OutOfRange);
@@ -93,6 +94,7 @@ impl Mesh {
     pub fn channel(&self, node: Node, heading: Heading) -> Option<u32>
         ensures answer { result ≡ channel_of self.now node heading }
         ensures unambiguous { Unambiguous self.now }
+        ensures within { IsSide self.now }
     {
         // No `then`: what `leaving` requires would have to be told to its closure.
         if self.contains(node) && self.leads(node, heading) {
@@ -119,6 +121,7 @@ impl Mesh {
         ensures answer { result ≡ route_answer self.now from to (length channels.old) }
         ensures list { channels.new ≡ list_after self.now from to channels.old result }
         ensures travels { IfOk result (λ n. Travels self.now from to (take n channels.new)) }
+        ensures within { IsSide self.now }
     {
         let hops = self.hops(from, to)? as usize;
         if channels.len() < hops {

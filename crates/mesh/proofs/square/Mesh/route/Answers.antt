@@ -51,4 +51,5 @@ returns c =
       answer = long_enough k from to _ hops n c.if-channels-hops.false;
       list = list;
       travels = travelled k hops from to _ _ c.in_ok-hops.ensures.within.few n list;
+      within = c.in_ok-hops.ensures.within;
     }
