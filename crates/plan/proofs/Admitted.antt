@@ -54,11 +54,17 @@ channel_fits t slots (d ∷ ds) h c x =
     here l rest (inl e) = subst (λ k. load t.flows k + slots ≤ t.settings.frame) (eqb-true d c e) l
     here l rest (inr e) = rest e
 
+pub all_fit_push : (frame : ℕ) (fs : List Flow) (f : Flow) → all_fit frame fs ≡ true → within 1 frame f.slots ≡ true → within 1 64 f.largest ≡ true → all_fit frame (fs ++ f ∷ []) ≡ true
+all_fit_push frame fs f h s l =
+    and_push (all_fit frame) (λ g. within 1 frame g.slots && within 1 64 g.largest) refl (λ _ _. refl) fs f
+    ∙ and_from _ _ h (and_from _ _ s l)
+
 module _ (t : Table) (slots largest : ℕ) (route : List ℕ) (f : Flow) (a : Admitted t slots largest route f) where
   pub still_fit : all_fit t.settings.frame t.flows ≡ true → all_fit t.settings.frame (t.flows ++ f ∷ []) ≡ true
   still_fit h =
-      and_push (all_fit t.settings.frame) (λ g. within 1 t.settings.frame g.slots && within 1 64 g.largest) refl (λ _ _. refl) t.flows f
-      ∙ and_from _ _ h (ap (λ (g : Flow). within 1 t.settings.frame g.slots && within 1 64 g.largest) a.is ∙ and_from _ _ a.some_slots a.packet)
+      all_fit_push t.settings.frame t.flows f h
+      (ap (λ (g : Flow). within 1 t.settings.frame g.slots) a.is ∙ a.some_slots)
+      (ap (λ (g : Flow). within 1 64 g.largest) a.is ∙ a.packet)
 
   pub still_routed : all_routed t.flows ≡ true → all_routed (t.flows ++ f ∷ []) ≡ true
   still_routed h = and_push all_routed (λ g. well_formed g.route) refl (λ _ _. refl) t.flows f ∙ and_from _ _ h (ap (λ (g : Flow). well_formed g.route) a.is ∙ a.routed)

@@ -1,4 +1,5 @@
 ghost use Rattle.std.specs.Prelude.{◌≡◌, ◌≤◌, map};
+ghost use Rattle.plan.specs.Tables.{SoundTable};
 ghost use Rattle.plan.specs.Sheets.{flow_crossings, crossings, flow_figures, busiest, sheet_figures, MostLoaded};
 
 use super::{Plan, ROWS};
@@ -31,7 +32,8 @@ impl Row {
 impl Plan {
     /// The channel crossings that the flits of one frame can need, over all flows.
     fn crossings(&self) -> u32
-        ensures { result ≡ crossings self.now.flows }
+        ensures value { result ≡ crossings self.now.flows }
+        ensures sound { SoundTable self.now }
     {
         self.rows().iter().map(|row| row.crossings()).sum()
     }
@@ -74,6 +76,7 @@ impl Plan {
     pub fn sheet(&self) -> Sheet
         ensures figures { result ≡ sheet_figures self.now }
         ensures most { MostLoaded self.now.flows result.busiest }
+        ensures sound { SoundTable self.now }
     {
         Sheet {
             crossings: self.crossings(),

@@ -29,7 +29,8 @@ impl Plan {
 
     /// How many flows are reserved.
     pub fn flow_count(&self) -> u32
-        ensures { result ≡ length self.now.flows }
+        ensures value { result ≡ length self.now.flows }
+        ensures sound { SoundTable self.now }
     {
         self.rows.len() as u32
     }
@@ -44,7 +45,8 @@ impl Plan {
 
     /// The slots of all flows routed over the channel.
     pub fn load(&self, channel: u32) -> u32
-        ensures { result ≡ load self.now.flows channel }
+        ensures value { result ≡ load self.now.flows channel }
+        ensures sound { SoundTable self.now }
     {
         self.rows().iter().map(|row| row.slots_on(channel)).sum()
     }

@@ -1,4 +1,5 @@
 ghost use Rattle.std.specs.Prelude.{◌≡◌, ◌≤◌};
+ghost use Rattle.plan.specs.Tables.{SoundTable};
 ghost use Rattle.plan.specs.Reserving.{new_table, set_answer, set_table, terms_checked, load_checked, admitted, reserve_answer, reserve_table};
 
 use super::{Plan, ROWS};
@@ -11,7 +12,8 @@ use routes::Route;
 impl Plan {
     /// A plan with the smallest settings and no flows.
     pub fn new() -> Plan
-        ensures { result ≡ new_table }
+        ensures value { result ≡ new_table }
+        ensures sound { SoundTable result }
     {
         Plan {
             settings: Settings::smallest(),
@@ -23,7 +25,10 @@ impl Plan {
     pub fn set(&mut self, settings: Settings) -> Result<(), PlanRefusal>
         ensures answer { result ≡ set_answer settings }
         ensures state { self.new ≡ set_table self.old settings }
+        ensures sound { SoundTable self.new }
     {
+        // A look at a field, for what a refusal tells of the plan.
+        let _ = &self.settings;
         if !settings.fits() {
             return Err(PlanRefusal::Settings);
         }
@@ -34,7 +39,8 @@ impl Plan {
 
     /// Whether there is a row left, and the slots and the largest packet are in range.
     fn check_terms(&self, slots: u32, largest: u32) -> Result<(), PlanRefusal>
-        ensures { result ≡ terms_checked self.now slots largest }
+        ensures answer { result ≡ terms_checked self.now slots largest }
+        ensures sound { SoundTable self.now }
     {
         if self.rows.len() >= ROWS {
             return Err(PlanRefusal::TableFull);
@@ -63,7 +69,8 @@ impl Plan {
 
     /// The row that a reservation takes, or the first check that refuses it.
     fn admitted(&self, slots: u32, largest: u32, route: &[u32]) -> Result<Row, PlanRefusal>
-        ensures { result ≡ admitted self.now slots largest route.now }
+        ensures answer { result ≡ admitted self.now slots largest route.now }
+        ensures sound { SoundTable self.now }
     {
         self.check_terms(slots, largest)?;
         let path = Route::new(route)?;
@@ -80,6 +87,7 @@ impl Plan {
     pub fn reserve(&mut self, slots: u32, largest: u32, route: &[u32]) -> Result<u32, PlanRefusal>
         ensures answer { result ≡ reserve_answer self.old slots largest route.now }
         ensures state { self.new ≡ reserve_table self.old slots largest route.now }
+        ensures sound { SoundTable self.new }
     {
         let row = self.admitted(slots, largest, route)?;
         let flow = self.flow_count();
