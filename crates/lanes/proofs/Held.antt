@@ -1,7 +1,8 @@
 -- What the lanes of all channels hold: what is read at a place, and what a flit in, a flit out and a turn leave.
-use Rattle.std.proofs.Common.{◌≡◌, ℕ, zero, suc, ◌<◌, Bool, true, false, cond, List, [], ◌∷◌, ◌++◌, get_or, set, replicate, Some, None, refl, ap, ◌∙◌, sym, arith}
+use Rattle.std.proofs.Common.{◌≡◌, ℕ, zero, suc, ◌<◌, ◌≤◌, Bool, true, false, cond, ltb, ◌⊎◌, List, [], ◌∷◌, ◌++◌, length, get_or, set, replicate, Some, None, All, refl, ap, ◌∙◌, sym, inl, inr, arith}
 use mathlib.Core.Path.{fun_ext}
 use Rattle.std.proofs.lemmas.List.{get_or_past, get_or_default}
+use Rattle.std.proofs.lemmas.Bool.{cases_lt}
 use Rattle.std.proofs.lemmas.Bool.Decides.{nat_tests}
 use Rattle.lists.specs.Lists.{rest_of, has_room, pushed}
 use Rattle.lanes.specs.Rings.{Queues, place, queue_in, lane_of, empty_lanes, place_answer, with_lane, takes, after_push}
@@ -9,7 +10,29 @@ use Rattle.lanes.specs.declared.buffers.Buffers.{Buffers}
 use Rattle.lanes.specs.declared.flits.Flit.{Flit}
 use Rattle.lanes.proofs.Rings.{place_past, queue_set}
 
--- a queue put where it stood changes nothing
+-- no lane has more than 8
+queue_short : (qs : List (List Flit)) (p : ℕ) → All (λ q. length q ≤ 8) qs → length (get_or qs p []) ≤ 8
+queue_short qs p few = by (cases_lt p (length qs))
+  where
+    by : (p < length qs) ⊎ (length qs ≤ p) → length (get_or qs p []) ≤ 8
+    by (inl l) = few p [] l
+    by (inr l) = rw (get_or_past qs p [] l) (omega arith)
+
+both_short : (t : Bool) (q : List Flit) → length q ≤ 8 → length (cond t q []) ≤ 8
+both_short true q l = l
+both_short false q l = omega arith
+
+pub lane_short : (b : Buffers) (c k : ℕ) → length (lane_of b c k) ≤ 8
+unfolding lane_of
+lane_short b c k = both_short (ltb k b.window) _ (queue_short b.lanes (place b.turn b.window c k) b.few)
+
+-- one queue put among the others: it stands there, the others as they stood, and put where it stood it changes nothing
+pub with_here : (f : Queues) (c k : ℕ) (q : List Flit) → with_lane f c k q c k ≡ q
+with_here f c k q = grind (arith, nat_tests)
+
+pub with_other : (f : Queues) (c k d j : ℕ) (q : List Flit) → (d ≡ c → j ≡ k → ⊥) → with_lane f c k q d j ≡ f d j
+with_other f c k d j q apart = grind (arith, nat_tests)
+
 pub with_same : (f : Queues) (c k : ℕ) (q : List Flit) → q ≡ f c k → with_lane f c k q ≡ f
 with_same f c k q e = fun_ext (λ d. fun_ext (λ j. by d j))
   where
@@ -34,7 +57,7 @@ module _ (b : Buffers) (c k : ℕ) where
     known : (c < 320) × (k < b.window) × (p ≡ place b.turn b.window c k)
     known = grind (arith, nat_tests)
 
-    lane_set : (a : Buffers) (q : List Flit) → a.window ≡ b.window → a.turn ≡ b.turn → a.lanes ≡ set b.lanes p q → lane_of a ≡ with_lane (lane_of b) c k q
+    pub lane_set : (a : Buffers) (q : List Flit) → a.window ≡ b.window → a.turn ≡ b.turn → a.lanes ≡ set b.lanes p q → lane_of a ≡ with_lane (lane_of b) c k q
     unfolding lane_of
     lane_set a q w t s = rw (w, t, s, known.2) (queue_set b.turn b.window c k b.ring.0 b.ring.1 known.1 known.0 b.lanes b.sized q)
 

@@ -1,4 +1,4 @@
-ghost use Rattle.std.specs.Prelude.{◌≡◌, ◌<◌, ◌≤◌, length};
+ghost use Rattle.std.specs.Prelude.{◌≡◌, ◌<◌, ◌≤◌, length, All};
 
 use crate::buffer::Lane;
 
@@ -14,5 +14,6 @@ pub struct Buffers {
     // Flat: an array of arrays takes the check four times as long.
     lanes: [Lane; 2560],
     ghost sized: { length lanes ≡ 2560 },
+    ghost few: { All (λ lane. length lane ≤ 8) lanes },
     ghost ring: { (window ≤ 8) × (turn < window) },
 }
