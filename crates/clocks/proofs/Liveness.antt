@@ -15,6 +15,9 @@ module _ {C : Type 0} (k : clock.Ghosts C) (positive : (c : C) → 1 ≤ k.left 
   within zero c h = absurd (omega (arith, positive c))
   within (suc m) c h = by_answer m c (k.shifts c true) refl h (within m)
 
+  pub shifts_soon : (c : C) → Soon c
+  shifts_soon c = within (k.left c) c (omega arith)
+
   -- and the count left is within the lag
   pub shifts_in_time : ((c : C) → k.left c ≤ k.lag c) → ShiftsInTime k
-  shifts_in_time small c = let r = within (k.left c) c (omega arith) in (r.0, omega (arith, r.1, small c), r.2)
+  shifts_in_time small c = let r = shifts_soon c in (r.0, omega (arith, r.1, small c), r.2)

@@ -15,6 +15,13 @@ at_least_left n l h = omega (arith, at_least l n h, mul_comm n l)
 pub product_small : (n l r : ℕ) → n ≤ 64 → r ≡ min l 4194305 → n * r ≤ 268435520
 product_small n l r h e = let k : r ≤ 4194305 = omega arith in mul-le-mul h k
 
+-- passes the limit only where the period times the lag itself does, which a lag past it does too
+pub product_long : (n l r : ℕ) → r ≡ min l 4194305 → 4194304 < n * r → 4194304 < n * l
+product_long n l r e h = let k : r ≤ l = omega arith in omega (arith, mul-le-mul_left n k)
+
+pub product_past : (n l r : ℕ) → 1 ≤ n → r ≡ min l 4194305 → 4194304 < r → r ≡ min (n * l) 4194305
+product_past n l r some e h = omega (arith, at_least_left n l some)
+
 -- and up to one past the limit it tells the lag itself
 pub product_told : (n l r : ℕ) → 1 ≤ n → r ≡ min l 4194305 → min (n * r) 4194305 ≡ min (n * l) 4194305
 product_told n l r some e =
