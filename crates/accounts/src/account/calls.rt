@@ -60,7 +60,8 @@ impl Account {
 
     /// The account of the fewest slots, the smallest packets and the shortest window, just opened.
     pub fn smallest() -> Account
-        ensures { result ≡ fresh 1 1 2 }
+        ensures answer { result ≡ fresh 1 1 2 }
+        ensures sound { Sound result }
     {
         Account {
             slots: 1,

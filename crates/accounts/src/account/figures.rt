@@ -3,7 +3,7 @@ ghost use Rattle.std.specs.Prelude.{◌≡◌, ◌+◌, ◌-◌, ◌*◌};
 ghost use Rattle.accounts.specs.Accounts.{opening};
 ghost use Rattle.accounts.specs.Credits.{credit, SpentExactly, FrameGiven};
 ghost use Rattle.accounts.specs.Laws.{share_of, HoldAtMost, stretch_least, stretch_most, Bring};
-ghost use Rattle.accounts.specs.Ledgers.{Terms};
+ghost use Rattle.accounts.specs.Ledgers.{Sound};
 
 use super::Account;
 
@@ -21,6 +21,7 @@ impl Account {
         ensures figure { result ≡ credit self.now }
         ensures spent { SpentExactly self.now }
         ensures frame { FrameGiven self.now }
+        ensures sound { Sound self.now }
     {
         self.balance + self.slots_in(self.frames_ahead()) as i64
     }
@@ -30,6 +31,7 @@ impl Account {
     pub fn share(&self, frames: u32) -> u64
         ensures figure { result ≡ share_of self.now frames }
         ensures holds { HoldAtMost (opening self.now) frames result }
+        ensures sound { Sound self.now }
     {
         self.slots_in(frames) + self.slack()
     }
@@ -40,6 +42,7 @@ impl Account {
         ensures least { result.least ≡ stretch_least self.now shifts }
         ensures most { result.most ≡ stretch_most self.now shifts }
         ensures holds { Bring (opening self.now) shifts result.least result.most }
+        ensures sound { Sound self.now }
     {
         let slots = self.slots_in(shifts);
         let slack = self.slack();
@@ -59,7 +62,7 @@ impl Account {
     /// How far the flits of some frames may pass their slots: the largest packet but for one flit.
     fn slack(&self) -> u64
         ensures value { result ≡ self.now.largest - 1 }
-        ensures terms { Terms self.now }
+        ensures sound { Sound self.now }
     {
         u64::from(self.largest) - 1
     }

@@ -7,35 +7,40 @@ use super::Account;
 impl Account {
     /// The slots of the flow in each frame.
     pub fn slots(&self) -> u32
-        ensures { result ≡ self.now.slots }
+        ensures value { result ≡ self.now.slots }
+        ensures sound { Sound self.now }
     {
         self.slots
     }
 
     /// The flits of the flow's largest packet.
     pub fn largest(&self) -> u32
-        ensures { result ≡ self.now.largest }
+        ensures value { result ≡ self.now.largest }
+        ensures sound { Sound self.now }
     {
         self.largest
     }
 
     /// The number of open frames.
     pub fn window(&self) -> u32
-        ensures { result ≡ self.now.window }
+        ensures value { result ≡ self.now.window }
+        ensures sound { Sound self.now }
     {
         self.window
     }
 
     /// The head frame, the first of the open ones.
     pub fn head(&self) -> u64
-        ensures { result ≡ self.now.head }
+        ensures value { result ≡ self.now.head }
+        ensures sound { Sound self.now }
     {
         self.head
     }
 
     /// The injection frame: at first 1, then that of the packet accepted last, or a later one after a shift.
     pub fn frame(&self) -> u64
-        ensures { result ≡ self.now.frame }
+        ensures value { result ≡ self.now.frame }
+        ensures sound { Sound self.now }
     {
         self.frame
     }

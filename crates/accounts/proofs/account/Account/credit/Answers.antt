@@ -14,4 +14,4 @@ returns c =
     let most : a.slots ≤ 4096 = omega arith in
     let fits = mul-le-mul few most in
     let product = c.slots_in.ensures ∙ ap (λ n. n * a.slots) c.frames_ahead.ensures ∙ mul_comm ahead a.slots in
-    record { figure = omega (arith, ints); spent = spent_exactly a; frame = frame_given a (omega arith) }
+    record { figure = omega (arith, ints); spent = spent_exactly a; frame = frame_given a (omega arith); sound = ok }

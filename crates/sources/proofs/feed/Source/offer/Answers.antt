@@ -5,7 +5,7 @@ use Rattle.sources.proofs.feed.Source.offer.Goals as goal
 pub invariant_of-self : goal.invariant_of-self
 invariant_of-self c =
     rw (c.from.ensures, c.from-in-Ok.ensures)
-    (accepted_sound c.self.invariant c.args.size c.in-Ok.frame c.offer.new.self c.in-Ok.ensures.answer c.offer.ensures.leaves c.offer.ensures.sound c.head.result c.head.ensures)
+    (accepted_sound c.self.invariant c.args.size c.in-Ok.frame c.offer.new.self c.in-Ok.ensures.answer c.offer.ensures.leaves c.offer.ensures.sound c.head.result c.head.ensures.value)
 
 pub returns-in-Ok-clause-sound : goal.returns-in-Ok-clause-sound
 returns-in-Ok-clause-sound c = invariant_of-self c
