@@ -66,7 +66,8 @@ impl Source {
 
     /// How the flow crosses the channel, if it does.
     pub fn crossing(&self, channel: u32) -> Option<Crossing>
-        ensures { result ≡ crossing self.now.route channel }
+        ensures answer { result ≡ crossing self.now.route channel }
+        ensures sound { SoundLine self.now }
     {
         self.route.crossing(channel)
     }
@@ -104,13 +105,15 @@ impl Source {
     pub fn first_place(&self) -> Option<usize>
         ensures answer { result ≡ first_place self.now }
         ensures waits { Waits self.now.waiting result }
+        ensures sound { SoundLine self.now }
     {
         first_filled(&self.waiting)
     }
 
     /// The frame of the earliest flit that waits.
     pub fn first_frame(&self) -> Option<u64>
-        ensures { result ≡ first_frame self.now }
+        ensures answer { result ≡ first_frame self.now }
+        ensures sound { SoundLine self.now }
     {
         self.first_place()
             .map(|place| self.account.head() + place as u64)
