@@ -58,11 +58,12 @@ module _ {l : Line} (ok : SoundLine l) (a : Ledger) (m : a ≡ shifted l.ledger)
   abbrev afterwards : List ℕ → Line
   afterwards xs = record { ledger = a; route = l.route; waiting = xs; sent = l.sent; accepted = l.accepted; delivered = l.delivered; refused = l.refused }
 
-  rest_sound : SoundLine (afterwards rest)
+  pub rest_sound : SoundLine (afterwards rest)
   rest_sound =
       let first : sum l.waiting ≡ get_or l.waiting 0 0 + sum (drop 1 l.waiting) = sum_by-drop_more (λ n. n) l.waiting 0 0 (omega (arith, ok.sized)) in
       record {
         sound = sound;
+        routed = ok.routed;
         sized = omega (arith, long, length-append (drop 1 l.waiting) (0 ∷ []));
         counted = omega (arith, sum_by_push (λ n. n) (drop 1 l.waiting) 0, first, ok.counted);
         ordered = λ k h. at k (omega (arith, went.head, went.frame)) (cases_lt k 7);

@@ -52,6 +52,7 @@ module _ {l : Line} (ok : SoundLine l) (size f : ℕ) (a : Ledger) (h : Ok f ≡
   pub accepted_sound : SoundLine (record { ledger = a; route = l.route; waiting = after; sent = l.sent; accepted = l.accepted + size; delivered = l.delivered; refused = l.refused })
   accepted_sound = record {
     sound = sound;
+    routed = ok.routed;
     sized = length-set l.waiting _ _ ∙ ok.sized;
     counted = omega (arith, sum_by-set (λ n. n) l.waiting (f - hf) (get_or l.waiting (f - hf) 0 + size) 0 (omega (arith, place_below, ok.sized)), ok.counted);
     ordered = still_ordered;
@@ -69,4 +70,4 @@ pub refused_sound : {l : Line} → SoundLine l → (size : ℕ) (r : AccountRefu
 refused_sound {l} ok size r a h m n =
     subst (λ b. SoundLine (record { ledger = b; route = l.route; waiting = l.waiting; sent = l.sent; accepted = l.accepted; delivered = l.delivered; refused = n }))
     (sym (refused_same l.ledger a size r h m))
-    (record { sound = ok.sound; sized = ok.sized; counted = ok.counted; ordered = ok.ordered; owed = ok.owed; arrived = ok.arrived })
+    (record { sound = ok.sound; routed = ok.routed; sized = ok.sized; counted = ok.counted; ordered = ok.ordered; owed = ok.owed; arrived = ok.arrived })

@@ -36,6 +36,8 @@ impl Source {
         ensures sound { IfOk result SoundLine }
     {
         let account = Account::new(slots, largest, window)?;
+        // Its channels tell that the route is one, which the source keeps.
+        let _ = route.channels();
         Ok(Source::untouched(account, route))
     }
 
