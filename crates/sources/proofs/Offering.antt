@@ -32,10 +32,10 @@ module _ {l : Line} (ok : SoundLine l) (size f : ℕ) (a : Ledger) (h : Ok f ≡
   new_balance : a.balance ≡ (l.ledger.balance +ℤ pos (now_is.by * l.ledger.slots)) -ℤ pos size
   new_balance = ap (λ (n : Ledger). n.balance) now_is.leaves
 
-  place_below : f - hf < 8
+  pub place_below : f - hf < 8
   place_below = omega (arith, told, same_head, now_is.frame, now_is.in_window, ok.sound)
 
-  still_owed : (pos (l.accepted + size) +ℤ a.balance) ≤ℤ pos (a.frame * a.slots)
+  pub still_owed : (pos (l.accepted + size) +ℤ a.balance) ≤ℤ pos (a.frame * a.slots)
   still_owed =
       let grown : a.frame * a.slots ≡ l.ledger.frame * l.ledger.slots + now_is.by * l.ledger.slots =
       ap (λ n. n * a.slots) (new_frame ∙ now_is.frame) ∙ ap (λ n. (l.ledger.frame + now_is.by) * n) same_slots ∙ add-mul l.ledger.frame now_is.by l.ledger.slots in
@@ -44,7 +44,7 @@ module _ {l : Line} (ok : SoundLine l) (size f : ℕ) (a : Ledger) (h : Ok f ≡
   abbrev after : List ℕ
   after = set l.waiting (f - hf) (get_or l.waiting (f - hf) 0 + size)
 
-  still_ordered : (k : ℕ) → a.frame < a.head + k → get_or after k 0 ≡ 0
+  pub still_ordered : (k : ℕ) → a.frame < a.head + k → get_or after k 0 ≡ 0
   still_ordered k past =
       let other : k ≢ f - hf = omega (arith, told, new_frame, same_head, now_is.frame, now_is.in_window, ok.sound) in
       get_or-set_other l.waiting (f - hf) k _ 0 other ∙ ok.ordered k (omega (arith, new_frame, same_head, now_is.frame))

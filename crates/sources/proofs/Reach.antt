@@ -24,9 +24,13 @@ module _ {l : Line} (ok : SoundLine l) where
       let most = mul-le l.ledger.frame l.ledger.slots 16777223 4096 (omega (arith, ok.sound)) (omega (arith, ok.sound)) in
       omega (arith, ints, ok.owed, most, ok.sound)
 
-  few_by : (k : ℕ) → ((k < 8) ⊎ (8 ≤ k)) → get_or l.waiting k 0 ≤ 68719509568
-  few_by k (inl low) = omega (arith, get_or-le-sum_by (λ n. n) l.waiting k 0 (omega (arith, ok.sized)), ok.counted, few_accepted)
+  few_by : (k : ℕ) → ((k < 8) ⊎ (8 ≤ k)) → get_or l.waiting k 0 ≤ l.accepted
+  few_by k (inl low) = omega (arith, get_or-le-sum_by (λ n. n) l.waiting k 0 (omega (arith, ok.sized)), ok.counted)
   few_by k (inr past) = omega (arith, get_or_past l.waiting k 0 (omega (arith, ok.sized)))
 
+  -- no more flits wait for a frame than were accepted
+  pub place_few : (k : ℕ) → get_or l.waiting k 0 ≤ l.accepted
+  place_few k = few_by k (cases_lt k 8)
+
   pub few_waiting : (k : ℕ) → get_or l.waiting k 0 ≤ 68719509568
-  few_waiting k = few_by k (cases_lt k 8)
+  few_waiting k = omega (arith, place_few k, few_accepted)
