@@ -47,7 +47,7 @@ module _ (n : Net) (held : List ℕ) (used : List Bool) (c : ℕ) (g : Grant) (x
   spared = (asks_both n c g.ahead g.flow x (sym is) asks).1
 
   -- the flit that departs
-  departs : departing n g x.before ≡ Some (ready_flit n g.ahead g.flow x.before)
+  pub departs : departing n g x.before ≡ Some (ready_flit n g.ahead g.flow x.before)
   departs = departs_ready n g x.before stood
 
   -- the lane that it lands in has space still
@@ -73,7 +73,7 @@ module _ (n : Net) (held : List ℕ) (used : List Bool) (c : ℕ) (g : Grant) (x
       (ap (ltb g.ahead) (departed_window x.before) ∙ lt-ltb _ _ inside)
       (ap (λ q. ltb (length q) 8) (same_lane x.before refl) ∙ lt-ltb _ _ (short e)))
 
-  lands : landed (departed n g x.before) c g (ready_flit n g.ahead g.flow x.before) x.last ≡ crossed n c g
+  pub lands : landed (departed n g x.before) c g (ready_flit n g.ahead g.flow x.before) x.last ≡ crossed n c g
   lands = landed_is n c g among x (sym is) (λ _. crossed_delivers n held c g x ok among (sym is) asks known inside) takes
 
   pub some_held : 1 ≤ get_or held g.ahead 0
@@ -91,7 +91,7 @@ module _ (n : Net) (held : List ℕ) (used : List Bool) (c : ℕ) (g : Grant) (x
     flit : y ≡ ready_flit n g.ahead g.flow x.before
     flit = same_Some y _ (ey ∙ departs)
 
-    after : m2 ≡ crossed n c g
+    pub after : m2 ≡ crossed n c g
     after = e2 ∙ ap (λ m. landed m c g y x.last) e1 ∙ ap (λ z. landed (departed n g x.before) c g z x.last) flit ∙ lands
 
     pub moved_on : Advanced n held used c g x m2

@@ -20,7 +20,10 @@ use Rattle.lanes.specs.Rings.{with_lane}
 abbrev Lanes : Type 0
 Lanes = ℕ → ℕ → List Flit
 
--- one lane changed, and another read
+-- one lane changed: read there, and elsewhere
+with_here : (f : Lanes) (c k : ℕ) (q : List Flit) → with_lane f c k q c k ≡ q
+with_here f c k q = ap (λ b. cond (b && eqb k k) q (f c k)) (eq-eqb c c refl) ∙ ap (λ b. cond b q (f c k)) (eq-eqb k k refl)
+
 pub with_off : (f : Lanes) (c k : ℕ) (q : List Flit) (d j : ℕ) → eqb d c ≡ false → with_lane f c k q d j ≡ f d j
 with_off f c k q d j h = ap (λ b. cond (b && eqb j k) q (f d j)) h
 

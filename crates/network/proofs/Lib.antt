@@ -1,4 +1,5 @@
 pub mod Lines
+pub mod Rows
 pub mod Landing
 pub mod Advancing
 pub mod Offering

@@ -56,7 +56,7 @@ module _ (n : Net) (held : List ℕ) (ok : Sound n held) (lines : SoundLines n.l
     there : ltb i (flows n) ≡ true
     there = lt-ltb i (flows n) among
 
-    leaves : offer_leaves n i size ≡ with_line n i (source.offered (line n i) size)
+    pub leaves : offer_leaves n i size ≡ with_line n i (source.offered (line n i) size)
     leaves = ap (λ b. cond b (with_line n i (source.offered (line n i) size)) n) there
 
     abbrev held_then : List ℕ

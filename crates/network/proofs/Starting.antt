@@ -1,6 +1,6 @@
 -- A network that starts from a plan.
 use Rattle.std.proofs.Common.{◌≡◌, ℕ, zero, suc, ◌+◌, ◌<◌, ◌≤◌, Bool, true, false, cond, eqb, ltb, ◌⊎◌, List, [], ◌∷◌, ◌++◌, map, length, get_or, take, replicate, is_some, Some, None, Option, sym, refl, ap, ◌∙◌, subst, inl, inr, arith}
-use Rattle.std.proofs.lemmas.List.{take_all, map_more, length-map, length-take-le, get_or-map, get_or_default}
+use Rattle.std.proofs.lemmas.List.{take_all, map_more, length-map, get_or-map, get_or_default}
 use Rattle.std.proofs.lemmas.List.Sums.{get_or-le-sum_by}
 use Rattle.std.proofs.lemmas.Bool.{cases_lt, or_left, or_right, eq-eqb, both_ways}
 use Rattle.std.proofs.lemmas.Bool.Decides.{nat_tests}
@@ -94,9 +94,6 @@ pub one_opened : (rows : List Flow) (window i : ℕ) (ls now : List Line) (l : L
 one_opened rows window i ls now l r low is e o h =
     h ∙ ap (λ xs. xs ++ l ∷ []) e ∙ ap (λ x. map (opened_flow window) (take i rows) ++ x ∷ []) (o ∙ ap (opened_flow window) is)
     ∙ sym (map_more (opened_flow window) rows i r low)
-
-pub few_opened : (rows : List Flow) (window i : ℕ) (ls : List Line) → i ≤ length rows → ls ≡ map (opened_flow window) (take i rows) → length ls ≡ i
-few_opened rows window i ls l e = ap length e ∙ length-map (take i rows) (opened_flow window) ∙ length-take-le i rows l
 
 pub all_opened : (t : Table) (rows : List Flow) (window i : ℕ) (ls : List Line) → rows ≡ t.flows → window ≡ t.settings.window → length rows ≤ i →
     ls ≡ map (opened_flow window) (take i rows) → ls ≡ map (opened_flow t.settings.window) t.flows

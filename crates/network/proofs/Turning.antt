@@ -2,7 +2,6 @@
 use Rattle.std.proofs.Common.{◌≡◌, ℕ, suc, ◌+◌, ◌<◌, ◌≤◌, Bool, true, false, cond, eqb, ltb, List, [], ◌∷◌, ◌++◌, map, length, get_or, take, drop, set, is_some, sym, refl, ap, ◌∙◌, subst, append_assoc, append-nil, arith}
 use mathlib.Core.Path.{fun_ext}
 use Rattle.std.proofs.lemmas.List.{set_at, drop_more, drop_all, take_all, map_more, length-map, length-take, get_or_at, nil_from_length}
-use Rattle.std.specs.List.{refill}
 use Rattle.std.proofs.lemmas.Bool.{and_from, and_right, eq-eqb, eqb-true, lt-ltb}
 use Rattle.lanes.specs.Rings.{turned}
 use Rattle.lanes.specs.declared.flits.Flit.{Flit}
@@ -27,7 +26,7 @@ long_part ls i l = length-map (take i ls) shifted_line ∙ (omega (arith, length
 up_to_here : (ls : List Line) (i : ℕ) → i < length ls → shifted_up_to ls i ≡ map shifted_line (take i ls) ++ get_or ls i no_line ∷ drop (i + 1) ls
 up_to_here ls i l = ap (λ r. map shifted_line (take i ls) ++ r) (drop_more ls i no_line l)
 
-up_to_line : (ls : List Line) (i : ℕ) (d : Line) → i < length ls → get_or (shifted_up_to ls i) i d ≡ get_or ls i no_line
+pub up_to_line : (ls : List Line) (i : ℕ) (d : Line) → i < length ls → get_or (shifted_up_to ls i) i d ≡ get_or ls i no_line
 up_to_line ls i d l = ap (λ q. get_or q i d) (up_to_here ls i l) ∙ get_or_at (map shifted_line (take i ls)) (get_or ls i no_line) (drop (i + 1) ls) d i (long_part ls i (omega arith))
 
 -- one line more
@@ -46,14 +45,9 @@ up_to_end ls now i l e =
     ∙ ap (λ r. map shifted_line ls ++ r) (drop_all i ls l)
     ∙ append-nil (map shifted_line ls)
 
--- lines written over as many are those lines
-pub whole_refill : (ls now : List Line) → length now ≡ length ls → refill (length ls) ls now ≡ now
-whole_refill ls now e =
-    ap (take (length ls)) (ap (λ r. now ++ r) (drop_all (length now) ls (omega (arith, e))) ∙ append-nil now) ∙ take_all (length ls) now (omega (arith, e))
-
 -- a network whose head frame is empty
 module _ (n : Net) (held : List ℕ) (ok : Sound n held) (none : head_empty n ≡ true) (made : n.head < n.cycles) where
-  none_held : get_or held 0 0 ≡ 0
+  pub none_held : get_or held 0 0 ≡ 0
   none_held = eqb-true _ _ (sym (head_empty_tells n held ok) ∙ none)
 
   -- every flow may shift
@@ -75,7 +69,7 @@ module _ (n : Net) (held : List ℕ) (ok : Sound n held) (none : head_empty n �
   turn_by c k false true h = no_head_lies n held ok none_held c ∙ sym (closed c (suc k) h)
   turn_by c k false false h = sym (closed c (suc k) h)
 
-  lanes_turn : turned n.window n.lane ≡ (λ c k. n.lane c (suc k))
+  pub lanes_turn : turned n.window n.lane ≡ (λ c k. n.lane c (suc k))
   lanes_turn = fun_ext (λ c. fun_ext (λ k. turn_by c k (ltb (suc k) n.window) (eqb (suc k) n.window) refl))
 
   abbrev net_with : List Line → (ℕ → ℕ → List Flit) → Net

@@ -1,5 +1,5 @@
 -- The network that a floor stands for.
-use Rattle.std.specs.Prelude.{◌+◌, map}
+use Rattle.std.specs.Prelude.{◌+◌, map, take}
 use Rattle.lanes.specs.Rings.{lane_of, turned}
 use Rattle.running.specs.Nets.{Net}
 use Rattle.sources.specs.Lines.{shifted_line}
@@ -11,7 +11,7 @@ net_of f = record {
   depth = f.depth;
   head = f.head;
   cycles = f.cycles;
-  lines = f.sources.items;
+  lines = take f.count f.sources;
   lane = lane_of f.buffers;
 }
 

@@ -9,7 +9,7 @@ pub mod moving;
 
 /// What a network runs on, beside its arbiter and its clock: the floor that its flits move on, and the counters that
 /// make its tests cheap.
-#[derive(Drop)]
+#[derive(Clone, Copy)]
 pub struct Fabric {
     floor: Floor,
     held: [u64; 8],

@@ -11,21 +11,29 @@ use super::Floor;
 use crate::counts::Counts;
 use routes::Crossing;
 use running::RunRefusal;
+use sources::Source;
 
 impl Floor {
+    /// The sources of the flows, in order.
+    fn flows(&self) -> &[Source]
+        ensures { result.now ≡ (net_of self.now).lines }
+    {
+        &self.sources[..self.count]
+    }
+
     /// How many flows there are.
     pub(crate) fn flow_count(&self) -> u32
         ensures value { result ≡ flows (net_of self.now) }
         ensures few { result ≤ 64 }
     {
-        self.sources.len() as u32
+        self.count as u32
     }
 
     /// The counts of a flow; none where there is no such flow.
     pub(crate) fn counts(&self, flow: u32) -> Option<Counts>
         ensures { result ≡ counts_of (net_of self.now) flow }
     {
-        let source = self.sources.as_slice().get(flow as usize)?;
+        let source = self.flows().get(flow as usize)?;
         Some(Counts {
             accepted: source.accepted(),
             delivered: source.delivered(),
@@ -37,17 +45,14 @@ impl Floor {
     pub(crate) fn crossing(&self, flow: u32, channel: u32) -> Option<Crossing>
         ensures { result ≡ crossing (route (net_of self.now) flow) channel }
     {
-        self.sources
-            .as_slice()
-            .get(flow as usize)?
-            .crossing(channel)
+        self.flows().get(flow as usize)?.crossing(channel)
     }
 
     /// The open frame of the flow's earliest waiting flit.
     pub(crate) fn earliest(&self, flow: u32) -> Option<usize>
         ensures { result ≡ first_place (line (net_of self.now) flow) }
     {
-        self.sources.as_slice().get(flow as usize)?.first_place()
+        self.flows().get(flow as usize)?.first_place()
     }
 
     /// Offers a packet to the flow's source.
@@ -56,11 +61,10 @@ impl Floor {
         ensures state { net_of self.new ≡ offer_leaves (net_of self.old) flow size }
         ensures reach { IfOk result (InReach (line (net_of self.old) flow)) }
     {
-        let source = self
-            .sources
-            .get_mut(flow as usize)
-            .ok_or(RunRefusal::NoSuchFlow)?;
-        Ok(source.offer(size)?)
+        if flow as usize >= self.count {
+            return Err(RunRefusal::NoSuchFlow);
+        }
+        Ok(self.sources[flow as usize].offer(size)?)
     }
 
     /// Lets the flow's earliest flit leave its source.
@@ -68,15 +72,18 @@ impl Floor {
         ensures answer { result ≡ leave_answer (line (net_of self.old) flow) }
         ensures state { net_of self.new ≡ with_line (net_of self.old) flow (left_by (line (net_of self.old) flow)) }
     {
-        self.sources.get_mut(flow as usize)?.leave()
+        if flow as usize >= self.count {
+            return None;
+        }
+        self.sources[flow as usize].leave()
     }
 
     /// Counts a flit of the flow as delivered.
     pub(crate) fn deliver(&mut self, flow: u32)
         ensures { net_of self.new ≡ with_line (net_of self.old) flow (delivering (line (net_of self.old) flow)) }
     {
-        if let Some(source) = self.sources.get_mut(flow as usize) {
-            source.deliver();
+        if (flow as usize) < self.count {
+            self.sources[flow as usize].deliver();
         }
     }
 }

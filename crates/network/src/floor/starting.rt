@@ -1,4 +1,4 @@
-ghost use Rattle.std.specs.Prelude.{◌≡◌, map};
+ghost use Rattle.std.specs.Prelude.{◌≡◌, map, length, take};
 ghost use Rattle.network.specs.Floors.{net_of};
 ghost use Rattle.network.specs.Lines.{SoundLines};
 ghost use Rattle.network.specs.Starting.{Reserved};
@@ -7,7 +7,6 @@ ghost use Rattle.running.specs.Cycles.{opened_flow, started};
 ghost use Rattle.sources.specs.Sources.{SoundLine};
 
 use super::Floor;
-use arrayvec::ArrayVec;
 use lanes::Buffers;
 use plan::{Plan, Row};
 use sources::Source;
@@ -21,15 +20,16 @@ fn open_source(row: Row, window: u32) -> Source
     Source::new(row.slots, row.largest, window, row.route).unwrap_or_default()
 }
 
-/// The sources of a plan's flows.
-fn open_sources(plan: &Plan) -> ArrayVec<Source, 64>
-    ensures lines { result.items ≡ map (opened_flow plan.now.settings.window) plan.now.flows }
-    ensures sound { SoundLines result.items }
+/// The sources of a plan's flows; the places behind them stay vacant.
+fn open_sources(plan: &Plan) -> [Source; 64]
+    ensures sized { length result ≡ 64 }
+    ensures lines { take (length plan.now.flows) result ≡ map (opened_flow plan.now.settings.window) plan.now.flows }
+    ensures sound { SoundLines (take (length plan.now.flows) result) }
 {
     let window = plan.settings().window;
-    let mut sources = ArrayVec::new();
-    for row in plan.rows() {
-        sources.push(open_source(*row, window));
+    let mut sources = [Source::vacant(); 64];
+    for (flow, row) in plan.rows().iter().enumerate() {
+        sources[flow] = open_source(*row, window);
     }
     sources
 }
@@ -46,6 +46,7 @@ impl Floor {
             depth: settings.depth as usize,
             head: 0,
             cycles: 0,
+            count: plan.flow_count() as usize,
             sources: open_sources(plan),
             buffers: Buffers::new(settings.window),
         }
