@@ -1,4 +1,5 @@
-use Rattle.std.proofs.Common.{◌≡◌, ℕ, zero, suc, ◌+◌, ◌-◌, ◌<◌, ◌≤◌, Bool, true, false, cond, List, [], ◌∷◌, ◌++◌, is_some, Some, None, sym, refl, ap, ◌∙◌, subst, ⊎_elim, arith}
+use Rattle.std.proofs.Common.{◌≡◌, ℕ, zero, suc, ◌+◌, ◌-◌, ◌<◌, ◌≤◌, Bool, true, false, cond, List, [], ◌∷◌, ◌++◌, length, get_or, drop, is_some, Some, None, sym, refl, ap, ◌∙◌, subst, ⊎_elim, arith}
+use Rattle.std.proofs.lemmas.List.{at_drop_more, at_drop_all}
 use Rattle.std.proofs.lemmas.Bool.{both_ways, cases_eq}
 use Rattle.std.specs.List.{AllByRecursion as All}
 use Rattle.folds.specs.Firsts.{first_up, first_of}
@@ -17,6 +18,20 @@ module _ (p : ℕ → Bool) (i n : ℕ) where
   pub first_end : n ≤ i → first_up p i (n - i) ≡ None
   unfolding first_up
   first_end l = ap (first_up p i) (none_left i n l)
+
+-- the turns of a search along a list
+module _ {X : Type 0} (p : X → Bool) (xs : List X) (k : ℕ) where
+  pub of_hit : (d : X) → k < length xs → p (get_or xs k d) ≡ true → first_of p (drop k xs) ≡ Some (get_or xs k d)
+  unfolding first_of
+  of_hit d l h = at_drop_more (first_of p) xs k d l ∙ ap (λ b. cond b (Some (get_or xs k d)) (first_of p (drop (k + 1) xs))) h
+
+  pub of_miss : (d : X) → k < length xs → p (get_or xs k d) ≡ false → first_of p (drop k xs) ≡ first_of p (drop (k + 1) xs)
+  unfolding first_of
+  of_miss d l h = at_drop_more (first_of p) xs k d l ∙ ap (λ b. cond b (Some (get_or xs k d)) (first_of p (drop (k + 1) xs))) h
+
+  pub of_end : length xs ≤ k → first_of p (drop k xs) ≡ None
+  unfolding first_of
+  of_end l = at_drop_all (first_of p) xs k l
 
 -- what such a search answers: a number that passes, and none only where none passes
 module _ (p : ℕ → Bool) where

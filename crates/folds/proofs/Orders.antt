@@ -1,5 +1,6 @@
-use Rattle.std.proofs.Common.{◌≡◌, ℕ, zero, suc, ◌+◌, ◌<◌, ◌≤◌, Bool, true, false, cond, not, eqb, List, [], ◌∷◌, ◌++◌, is_some, Some, sym, refl, ap, ◌∙◌, subst, arith}
-use Rattle.std.proofs.lemmas.Bool.{both_ways, eqb-true, eqb-false, ne_eqb}
+use Rattle.std.proofs.Common.{◌≡◌, ℕ, zero, suc, ◌+◌, ◌<◌, ◌≤◌, Bool, true, false, cond, not, eqb, List, [], ◌∷◌, ◌++◌, length, get_or, take, is_some, Some, sym, refl, ap, ◌∙◌, subst, append-nil, arith}
+use Rattle.std.proofs.lemmas.List.Elements.{filter_more}
+use Rattle.std.proofs.lemmas.Bool.{both_ways, eqb-true, eqb-false, eq-eqb, ne_eqb}
 use Rattle.folds.specs.Filled.{list_up}
 use Rattle.folds.specs.Firsts.{first_of}
 use Rattle.folds.specs.Orders.{count, EachOnce, rising, without, moved_to_end}
@@ -15,7 +16,7 @@ count_miss k x xs e = ap (λ b. cond b 1 0 + count k xs) e ∙ (let q : 0 + coun
 count_hit : (k x : ℕ) (xs : List ℕ) → eqb x k ≡ true → count k (x ∷ xs) ≡ 1 + count k xs
 count_hit k x xs e = ap (λ b. cond b 1 0 + count k xs) e
 
--- without k: no k is left, and the others stand there as often
+-- without k: no k is left, the others stand there as often, and the rest of the length is k's
 same_by : (k x : ℕ) (xs : List ℕ) (b : Bool) → eqb x k ≡ b → count k (without k xs) ≡ 0 → count k (cond (not b) (x ∷ without k xs) (without k xs)) ≡ 0
 same_by k x xs true e h = h
 same_by k x xs false e h = count_miss k x (without k xs) e ∙ h
@@ -32,6 +33,28 @@ other_by k j x xs false e ne h = ap (λ n. cond (eqb x j) 1 0 + n) h
 pub count_other : (k j : ℕ) (xs : List ℕ) → eqb k j ≡ false → count j (without k xs) ≡ count j xs
 count_other k j [] ne = refl
 count_other k j (x ∷ xs) ne = other_by k j x xs (eqb x k) refl ne (count_other k j xs ne)
+
+length_by : (k x : ℕ) (xs : List ℕ) (b : Bool) → length (without k xs) + count k xs ≡ length xs →
+    length (cond (not b) (x ∷ without k xs) (without k xs)) + (cond b 1 0 + count k xs) ≡ suc (length xs)
+length_by k x xs true h = omega arith
+length_by k x xs false h = omega arith
+
+pub length_without : (k : ℕ) (xs : List ℕ) → length (without k xs) + count k xs ≡ length xs
+length_without k [] = refl
+length_without k (x ∷ xs) = length_by k x xs (eqb x k) (length_without k xs)
+
+-- the turns of a loop that leaves k out
+module _ (k : ℕ) (xs : List ℕ) (i : ℕ) where
+  pub without_keeps : i < length xs → (get_or xs i 0 ≡ k → ⊥) → without k (take (i + 1) xs) ≡ without k (take i xs) ++ get_or xs i 0 ∷ []
+  without_keeps l ne =
+      filter_more (λ x. not (eqb x k)) xs i 0 l
+      ∙ ap (λ b. without k (take i xs) ++ cond (not b) (get_or xs i 0 ∷ []) []) (ne_eqb (get_or xs i 0) k ne)
+
+  pub without_drops : i < length xs → get_or xs i 0 ≡ k → without k (take (i + 1) xs) ≡ without k (take i xs)
+  without_drops l e =
+      filter_more (λ x. not (eqb x k)) xs i 0 l
+      ∙ ap (λ b. without k (take i xs) ++ cond (not b) (get_or xs i 0 ∷ []) []) (eq-eqb (get_or xs i 0) k e)
+      ∙ append-nil (without k (take i xs))
 
 -- moved to the end, each number stands there once as before
 moved_by : (k j : ℕ) (xs : List ℕ) (b : Bool) → eqb k j ≡ b → count j xs ≡ 1 → count j (moved_to_end k xs) ≡ 1
