@@ -1,12 +1,13 @@
 use mathlib.Core.HLevel.{is_prop→PathP, Π_prop}
-use Rattle.std.proofs.Common.{◌≡◌, ℕ, zero, suc, ◌+◌, ◌<◌, ◌≤◌, Bool, true, false, cond, not, eqb, List, [], ◌∷◌, ◌++◌, length, get_or, take, drop, sym, refl, ap, ◌∙◌, arith}
+use Rattle.std.proofs.Common.{◌≡◌, ℕ, zero, suc, ◌+◌, ◌-◌, ◌<◌, ◌≤◌, Bool, true, false, cond, not, eqb, List, [], ◌∷◌, ◌++◌, length, get_or, set, take, drop, replicate, sym, refl, ap, ◌∙◌, append_assoc, arith}
 use native.Mathlib.Nat.{ℕ_set}
 use borrow.Rule.Slice.PartMut.{put_mid, mid_of}
 use Rattle.std.specs.List.{remove, AllWithin}
 use Rattle.std.proofs.lemmas.Bool.{eq-eqb, ne_eqb}
-use Rattle.std.proofs.lemmas.List.{same_lists}
+use Rattle.std.proofs.lemmas.List.{same_lists, set_at}
 use Rattle.std.proofs.lemmas.Slice.{put_mid-rotated}
 use Rattle.folds.specs.Orders.{EachOnce, count, rising, without, moved_to_end}
+use Rattle.folds.proofs.Counts.{more_left}
 use Rattle.folds.proofs.Filled.{length_up}
 use Rattle.folds.proofs.Ups.{getD_up}
 use Rattle.arbiters.specs.declared.order.Order.{Order}
@@ -17,6 +18,14 @@ same_order a b p = λ i. record {
   flows = p i;
   ok = is_prop→PathP (λ i. EachOnce 64 (p i)) (λ i. Π_prop (λ f. Π_prop (λ l. ℕ_set _ _))) a.ok b.ok i;
 }
+
+-- one more of the places that still hold f is written
+pub written_more : (f x n : ℕ) (front : List ℕ) → n < 64 → length front ≡ n →
+    set (front ++ replicate (64 - n) f) n x ≡ (front ++ x ∷ []) ++ replicate (64 - (n + 1)) f
+written_more f x n front l h =
+    ap (λ k. set (front ++ replicate k f) n x) (more_left n 64 l)
+    ∙ set_at front f (replicate (64 - (n + 1)) f) x n h
+    ∙ sym (append_assoc front (x ∷ []) (replicate (64 - (n + 1)) f))
 
 -- at each place its own number
 pub rising_is : (xs : List ℕ) (n : ℕ) → length xs ≡ n → ((k d : ℕ) → k < n → get_or xs k d ≡ k) → xs ≡ rising n
