@@ -119,5 +119,9 @@ module _ {A : Type 0} (m : arbiter.Ghosts A) (n : Net) (a : A) where
       let q = given_by k (m.choice (held c) c (requesters n c k)) some in
       (q.0, grants_at c l ∙ ap (grant_in m n (held c) c) e ∙ q.1, q.2)
 
+  -- where no frame is served, nothing is granted
+  pub unserved_none : (c : ℕ) → c < 320 → served n c ≡ None → at_channel (grants m n a) c ≡ None
+  unserved_none c l e = grants_at c l ∙ ap (grant_in m n (held c) c) e
+
   pub grants_length : length (grants m n a) ≡ 320
   grants_length = length_up (λ d. grant_at m n (arbiter_at m n a d) d) 0 320

@@ -1,5 +1,5 @@
 -- To move the granted flits one channel at a time, in rising order, is to move them together.
-use Rattle.std.proofs.Common.{◌≡◌, ℕ, ◌+◌, ◌<◌, Bool, true, false, cond, not, ◌&&◌, ◌||◌, eqb, List, [], ◌∷◌, ◌++◌, take, set, is_some, Some, None, Option, sym, refl, ap, ◌∙◌, subst, ⊎_elim, append_assoc, append-nil, arith}
+use Rattle.std.proofs.Common.{◌≡◌, ℕ, ◌+◌, ◌<◌, ◌≤◌, Bool, true, false, cond, not, ◌&&◌, ◌||◌, eqb, List, [], ◌∷◌, ◌++◌, take, set, is_some, Some, None, Option, sym, refl, ap, ◌∙◌, subst, ⊎_elim, append_assoc, append-nil, arith}
 use Rattle.std.proofs.lemmas.Bool.{and_left, and_right, both_ways, cases_eq, eq-eqb, ne_eqb, eqb-true, eqb-false}
 use Rattle.folds.proofs.Ups.{up_same, up_set}
 use Rattle.lanes.specs.Lanes.{rest_of}
@@ -271,3 +271,11 @@ module _ (n : Net) (gs : List (Option Grant)) (routed : Routed n) (valid : Valid
 
   pub arrivals_one : arrive n c (at_channel gs c) ≡ arrive (moved n (take c gs)) c (at_channel gs c)
   arrivals_one = arrivals_by (at_channel gs c) refl
+
+-- nothing is granted to a flow that is not there
+given_no : (i : ℕ) (o : Option Grant) → ((g : Grant) → o ≡ Some g → g.flow < i) → (j : ℕ) → i ≤ j → gives_to o j ≡ false
+given_no i None h j l = refl
+given_no i (Some g) h j l = let low = h g refl in ne_eqb g.flow j (λ q. omega arith)
+
+pub valid_flow : (n : Net) (gs : List (Option Grant)) → Valid n gs → (c i : ℕ) → flows n ≤ i → gives_to (at_channel gs c) i ≡ false
+valid_flow n gs valid c i l = given_no (flows n) (at_channel gs c) (λ g e. (valid c g e).0) i l
