@@ -59,7 +59,7 @@ module _
   both_keep false true l = leaves l (first_place l)
   both_keep false false l = refl
 
-  line_keeps : (gs : List (Option Grant)) (i : ℕ) (l : Line) → field (moved_line gs i l) ≡ field l
+  pub line_keeps : (gs : List (Option Grant)) (i : ℕ) (l : Line) → field (moved_line gs i l) ≡ field l
   line_keeps gs i l = both_keep (gives_to (at_channel gs (last_channel l.route)) i) (gives_to (at_channel gs (first_channel l.route)) i) l
 
   pub moved_keeps : (n : Net) (gs : List (Option Grant)) (i : ℕ) → field (line (moved n gs) i) ≡ field (line n i)
