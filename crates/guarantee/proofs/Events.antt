@@ -140,3 +140,16 @@ module _ {A C : Type 0} (arbiters : arbiter.Ghosts A) (clocks : clock.Ghosts C) 
       ≡ (line r.net i).accepted + accepted_by i (events_of arbiters clocks r (as_call s))
   step_counts r (offers j size) i = offer_counts r.net j size i
   step_counts r cycles i = cycle_counts r i (run_over r.net)
+
+  -- a flow's account of accepted flits is what the events count
+  pub account_counts : (ss : List Step) (r : Run A C) (i : ℕ) →
+      (line (after arbiters clocks r (as_calls ss)).net i).accepted
+      ≡ (line r.net i).accepted + accepted_by i (events arbiters clocks r (as_calls ss))
+  account_counts [] r i = omega arith
+  account_counts (s ∷ ss) r i =
+      omega (
+        arith,
+        account_counts ss (leaves arbiters clocks r (as_call s)) i,
+        step_counts r s i,
+        accepted_append i (events_of arbiters clocks r (as_call s)) (events arbiters clocks (leaves arbiters clocks r (as_call s)) (as_calls ss)),
+      )
