@@ -113,7 +113,7 @@ without_ledger : (l : source.Line) (o : Option ℕ) → (source.without_first l 
 without_ledger l None = refl
 without_ledger l (Some k) = refl
 
-moved_ledger : (n : Net) (gs : List (Option Grant)) (i : ℕ) → (line (moved n gs) i).ledger ≡ (line n i).ledger
+pub moved_ledger : (n : Net) (gs : List (Option Grant)) (i : ℕ) → (line (moved n gs) i).ledger ≡ (line n i).ledger
 moved_ledger = moved_keeps (λ l. l.ledger) without_ledger (λ l. refl)
 
 -- a shift is one of every account

@@ -1,4 +1,4 @@
--- The head frame's work is 0 exactly where it is empty; what an offer and a shift leave of the work.
+-- The head frame's work is 0 exactly where it is empty; what an offer, a shift and the count of a cycle leave of the work.
 use Rattle.std.proofs.Common.{◌≡◌, ℕ, suc, ◌+◌, ◌-◌, ◌*◌, ◌<◌, ◌≤◌, Bool, true, false, cond, ltb, ◌≢◌, List, [], ◌∷◌, length, get_or, is_some, sym, refl, ap, ◌∙◌, mul-le-mul_left, zero-mul, mul-one, arith}
 use Rattle.std.proofs.lemmas.List.{length-map, length-set, get_or-map, get_or-set_other}
 use Rattle.std.proofs.lemmas.Bool.{and_parts, eq-eqb, eqb-true, ltb-true}
@@ -11,7 +11,7 @@ use Rattle.plan.specs.Tables.{Table}
 use Rattle.routes.specs.Crossings.{next_channel}
 use Rattle.routes.proofs.Crossings.{well_formed_some}
 use Rattle.sources.specs.Lines.{Line, joined, turned_away, offered, moved_on}
-use Rattle.running.specs.Cycles.{head_empty, shifted_net}
+use Rattle.running.specs.Cycles.{head_empty, shifted_net, cycle_made}
 use Rattle.running.specs.Nets.{Net, no_line, line, route, flows}
 use Rattle.running.specs.Offers.{with_line, offer_leaves}
 use Rattle.running.specs.Sounds.{goes_on, all_go_on, waiting_in, buffered_in, Sound}
@@ -66,6 +66,10 @@ module _ (n : Net) (held : List ℕ) (ok : Sound n held) where
 
   pub work_empty : (work n 0 ≡ 0 → head_empty n ≡ true) × (head_empty n ≡ true → work n 0 ≡ 0)
   work_empty = (work_none_empty, empty_work_none)
+
+-- the count of a cycle changes none
+pub counted_work : (n : Net) (k : ℕ) → work (cycle_made n) k ≡ work n k
+counted_work n k = work_alike (cycle_made n) n k k refl (λ i. refl) (λ i l. refl) (λ c. refl)
 
 -- a shift makes each open frame the one before
 pub shift_work : (n : Net) (k : ℕ) → work (shifted_net n) k ≡ work n (suc k)
