@@ -1,5 +1,5 @@
+use crate::stop::Result;
 use accounts::Account;
-use anyhow::Result;
 
 /// Offers a packet, and prints the frame that it gets.
 fn show_offer(rt: &impl Print, account: &mut Account, size: u32) -> Result<()> {

@@ -1,4 +1,4 @@
-use anyhow::Result;
+use crate::stop::Result;
 use routes::Route;
 use sources::Source;
 

@@ -5,12 +5,13 @@
 mod accounting;
 mod feeding;
 mod planning;
+mod stop;
 mod timing;
 
-use anyhow::Result;
 use mesh::Mesh;
 use plan::{Plan, Settings};
 use printer::WISHES;
+use stop::Result;
 
 /// Plans the printer: its routes, its reservations and its sheet.
 fn plan_printer(rt: &(impl Print + AllocGlobal), side: u32, settings: Settings) -> Result<()> {

@@ -1,4 +1,4 @@
-use anyhow::Result;
+use crate::stop::Result;
 use mesh::Mesh;
 use plan::{ChannelLoad, Plan, PlanRefusal};
 use printer::Wish;

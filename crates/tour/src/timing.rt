@@ -1,4 +1,4 @@
-use anyhow::Result;
+use crate::stop::Result;
 use arbiters::{Arbiter, FlowSet, LeastRecentlyGranted};
 use clocks::{Barrier, Sampled, WindowClock};
 

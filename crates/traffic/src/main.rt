@@ -2,11 +2,12 @@
 #![tactic(auto)]
 
 mod moving;
+mod stop;
 
-use anyhow::Result;
 use mesh::Mesh;
 use plan::{Plan, Settings};
 use printer::WISHES;
+use stop::Result;
 
 /// Plans the printer; a wish that does not fit is left out.
 fn plan_printer(side: u32, settings: Settings) -> Result<Plan> {

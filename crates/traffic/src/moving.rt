@@ -1,4 +1,4 @@
-use anyhow::Result;
+use crate::stop::Result;
 use arbiters::LeastRecentlyGranted;
 use clocks::{Barrier, Sampled};
 use guarantee::{Bounds, figures, share};
@@ -18,10 +18,11 @@ struct Watched {
 }
 
 impl Watched {
-    /// A network of which nothing was seen yet.
-    fn new(network: Printer) -> Watched {
+    /// Starts the plan; nothing was seen yet.
+    // The network is large: it is made where it stays, and not moved.
+    fn start(plan: Plan, arbiter: LeastRecentlyGranted, clock: Sampled<Barrier>) -> Watched {
         Watched {
-            network,
+            network: Network::start(plan, arbiter, clock),
             since_shift: 0,
             longest_epoch: 0,
             delivered: 0,
@@ -166,9 +167,8 @@ pub fn run_printer(rt: &impl Print, plan: Plan) -> Result<()> {
     let clock = Sampled::new(Barrier::new(2)?, 2)?;
     let bounds = figures(&plan, &arbiter, &clock);
     print_figures(rt, &plan, bounds)?;
-    let mut network = Network::start(plan, arbiter, clock);
-    fill(rt, &mut network)?;
-    let mut run = Watched::new(network);
+    let mut run = Watched::start(plan, arbiter, clock);
+    fill(rt, &mut run.network)?;
     println!(rt; "")?;
     println!(rt; "Cycles")?;
     show_cycles(rt, &mut run)?;
