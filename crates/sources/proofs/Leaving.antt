@@ -1,13 +1,33 @@
--- What a shift of the window leaves at a source.
-use Rattle.std.proofs.Common.{◌≡◌, ℕ, zero, suc, ◌+◌, ◌-◌, ◌*◌, ◌<◌, ◌≤◌, Bool, true, false, cond, eqb, ◌⊎◌, List, [], ◌∷◌, ◌++◌, length, get_or, drop, take, pos, ◌+ℤ◌, ◌≤ℤ◌, sum, sym, refl, ap, ◌∙◌, subst, inl, inr, add-mul, one-mul, arith}
-use Rattle.std.proofs.lemmas.List.{get_or-drop, get_or_append_left, get_or-append_right, length-append, length-drop}
+-- What a flit that leaves and a shift of the window leave at a source.
+use Rattle.std.proofs.Common.{◌≡◌, ℕ, zero, suc, ◌+◌, ◌-◌, ◌*◌, ◌<◌, ◌≤◌, Bool, true, false, cond, eqb, ◌≢◌, ◌⊎◌, List, [], ◌∷◌, ◌++◌, length, get_or, set, drop, take, pos, ◌+ℤ◌, ◌≤ℤ◌, Some, sum, sym, refl, ap, ◌∙◌, subst, inl, inr, add-mul, one-mul, arith}
+use Rattle.std.proofs.lemmas.List.{get_or-set_other, get_or-drop, get_or_append_left, get_or-append_right, length-append, length-drop, length-set}
 use Rattle.std.proofs.lemmas.Int.{ints}
-use Rattle.std.proofs.lemmas.List.Sums.{sum_by_push, sum_by-drop_more}
-use Rattle.std.proofs.lemmas.Bool.{cases_lt}
+use Rattle.std.proofs.lemmas.List.Sums.{sum_by-set, sum_by_push, sum_by-drop_more}
+use Rattle.std.proofs.lemmas.Bool.{cases_eq, cases_lt}
 use Rattle.accounts.specs.Ledgers.{Ledger, Sound}
 use Rattle.accounts.specs.Shifts.{shifted, capped, next_head, pushed_on}
-use Rattle.sources.specs.Lines.{Line}
+use Rattle.sources.specs.Lines.{Line, without_first}
 use Rattle.sources.specs.Sources.{SoundLine}
+
+-- the source after a flit at the place j has left
+module _ {l : Line} (ok : SoundLine l) (j : ℕ) (in_places : j < 8) (some : 0 < get_or l.waiting j 0) where
+  abbrev fewer : List ℕ
+  fewer = set l.waiting j (get_or l.waiting j 0 - 1)
+
+  other : (k : ℕ) → l.ledger.frame < l.ledger.head + k → ((k ≡ j) ⊎ (k ≡ j → ⊥)) → get_or fewer k 0 ≡ 0
+  other k h (inl e) = absurd (let z : get_or l.waiting j 0 ≡ 0 = subst (λ i. get_or l.waiting i 0 ≡ 0) e (ok.ordered k h) in omega arith)
+  other k h (inr d) = let ne : k ≢ j = d in get_or-set_other l.waiting j k (get_or l.waiting j 0 - 1) 0 ne ∙ ok.ordered k h
+
+  pub left_sound : SoundLine (without_first l (Some j))
+  left_sound = record {
+    sound = ok.sound;
+    routed = ok.routed;
+    sized = length-set l.waiting _ _ ∙ ok.sized;
+    counted = omega (arith, sum_by-set (λ n. n) l.waiting j (get_or l.waiting j 0 - 1) 0 (omega (arith, ok.sized)), ok.counted);
+    ordered = λ k h. other k h (cases_eq k j);
+    owed = ok.owed;
+    arrived = omega (arith, ok.arrived);
+  }
 
 -- a list of some items without its first, which is 0, and that one behind them
 pub turned : (xs : List ℕ) → 0 < length xs → get_or xs 0 0 ≡ 0 → drop 1 xs ++ take 1 xs ≡ drop 1 xs ++ 0 ∷ []
