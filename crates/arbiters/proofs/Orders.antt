@@ -71,6 +71,10 @@ pub turned_is : (f : ℕ) (xs ys : List ℕ) (i k : ℕ) → count f xs ≡ 1 �
 turned_is f xs ys i k h l e m q =
     put_mid-rotated i k xs ys 0 l m q ∙ ap (λ zs. zs ++ get_or xs i 0 ∷ []) (remove_once f xs i l e h) ∙ ap (λ x. without f xs ++ x ∷ []) e
 
+-- what is moved to the end stands there: to write it there once more changes nothing
+pub last_again : (f n : ℕ) (xs : List ℕ) → length (without f xs) ≡ n → set (moved_to_end f xs) n f ≡ moved_to_end f xs
+last_again f n xs l = set_at (without f xs) f [] f n l
+
 -- a number that no place holds does not stand there
 pub count_none : (f : ℕ) (xs : List ℕ) → AllWithin (λ x. x ≡ f → ⊥) xs 0 (length xs) → count f xs ≡ 0
 count_none f [] none = refl
