@@ -1,4 +1,4 @@
-use Rattle.std.proofs.Common.{◌≡◌, ◌-◌, ◌++◌, drop, ap, length-take-le, arith, rules}
+use Rattle.std.proofs.Common.{◌≡◌, ◌-◌, ◌<◌, ◌≤◌, ◌++◌, length, drop, ap, length-take-le, arith, rules}
 use Rattle.mesh.specs.Numbering.{leaving}
 use Rattle.mesh.specs.Routes.{route}
 use Rattle.mesh.specs.Walks.{towards, onward}
@@ -13,7 +13,8 @@ nodes c = counted _ c.args.from c.args.to _ c.in_ok-hops.ensures.answer
 
 pub returns-then-channels-hops-clause-answer : goal.returns-then-channels-hops-clause-answer
 returns-then-channels-hops-clause-answer c =
-    too_short _ _ _ _ _ (nodes (goal.at.returns-then-channels-hops-clause-answer c).In_ok-hops) c.if-channels-hops.true
+    let short : length c.args.channels.now < c.in_ok-hops.field-0 = omega arith in
+    too_short _ _ _ _ _ (nodes (goal.at.returns-then-channels-hops-clause-answer c).In_ok-hops) short
 
 pub loop-channel-init : goal.loop-channel-init
 loop-channel-init c =
@@ -30,7 +31,8 @@ loop-channel-preserved c =
     let to = c.args.to in
     let on : c.way_on-heading.result.1 ≡ onward here to = search rules in
     let number : c.leaving.result ≡ leaving k here (towards here to) = search rules in
-    let lent = length-take-le _ _ c.if-channels-hops.false in
+    let room : c.in_ok-hops.field-0 ≤ length c.args.channels.now = omega arith in
+    let lent = length-take-le _ _ room in
     record {
       on_the_mesh = next_inside k here to _ on c.loop-channel.invariant.on_the_mesh (nodes (goal.at.loop-channel-preserved c).In_ok-hops).ends;
       written = written_more k c.in_ok-hops.field-0 _ _ here to _ _ _ on number (omega arith) (omega arith) c.loop-channel.invariant.written;
@@ -43,12 +45,13 @@ returns c =
     let to = c.args.to in
     let hops = c.in_ok-hops.field-0 in
     let n = nodes (goal.at.returns c).In_ok-hops in
-    let lent = length-take-le _ _ c.if-channels-hops.false in
+    let room : hops ≤ length c.args.channels.now = omega arith in
+    let lent = length-take-le _ _ room in
     let written = written_all k hops from to _ _ _ n (omega arith) (omega arith) c.loop-channel.invariant.written in
     let list : c.loop-channel.channel-items ++ drop hops c.args.channels.now ≡ route k from to ++ drop hops c.args.channels.now =
     ap (λ cs. cs ++ drop hops c.args.channels.now) written in
     record {
-      answer = long_enough k from to _ hops n c.if-channels-hops.false;
+      answer = long_enough k from to _ hops n room;
       list = list;
       travels = travelled k hops from to _ _ c.in_ok-hops.ensures.within.few n list;
       within = c.in_ok-hops.ensures.within;
