@@ -1,5 +1,5 @@
 use Rattle.network.specs.Floors.{net_of}
-use Rattle.network.proofs.Advancing.{Advanced, some_held, moved_on}
+use Rattle.network.proofs.Advancing.{Advanced, departs, some_held, moved_on}
 use Rattle.network.proofs.fabric.Fabric.advance.Goals as goal
 use Rattle.network.proofs.fabric.Fabric.advance.Goals.{After-land}
 
@@ -30,3 +30,11 @@ returns-then-crossing-clause-state c = (advanced (goal.at.returns-then-crossing-
 
 pub returns-else-crossing-clause-state : goal.returns-else-crossing-clause-state
 returns-else-crossing-clause-state c = (advanced (goal.at.returns-else-crossing-clause-state c).After-land).after
+
+-- the flit that asked stands there, so one departs
+pub invariant_of-self : goal.invariant_of-self
+invariant_of-self c =
+    let f = c.args.self.now in
+    let there = departs (net_of f.floor) f.held f.used c.args.channel c.args.grant c.in-Some.crossing f.sound f.marked c.requires.asked c.requires.in_window c.in-Some.ensures in
+    let none = c.in_default-depart.ensures.answer in
+    absurd cc

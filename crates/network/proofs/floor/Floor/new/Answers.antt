@@ -13,7 +13,7 @@ invariant_of-result c =
     let o = c.open_sources in
     record {
       ring = c.new.ensures.frames ∙ not_clamped c.settings-settings.result.window (omega (arith, w, v)) (omega (arith, w, v));
-      few = omega (arith, c.flow_count.ensures, s.sound.few);
+      few = omega (arith, c.flow_count.ensures.value, s.sound.few);
       sized = o.ensures.sized;
-      lines = subst (λ k. SoundLines (take k o.result)) (sym c.flow_count.ensures) o.ensures.sound;
+      lines = subst (λ k. SoundLines (take k o.result)) (sym c.flow_count.ensures.value) o.ensures.sound;
     }
