@@ -1,21 +1,18 @@
 use Rattle.std.proofs.Common.{rules}
-use Rattle.plan.specs.Tables.{SoundTable}
 use Rattle.plan.proofs.Admitted.{flows_pushed, reserved_sound}
 use Rattle.plan.proofs.table.Plan.reserve.Goals as goal
-use Rattle.plan.proofs.table.Plan.reserve.Goals.{After-push}
 
--- the table that took the flow
-sound_after : (c : After-push) → SoundTable (record { settings = c.self.inside.settings; flows = c.push.new.self })
-sound_after c =
+pub invariant_of-self : goal.invariant_of-self
+invariant_of-self c =
     let a = c.args in
     let p = c.self in
     search (rules, c.push.ensures.state, reserved_sound p.inside.settings p.inside.rows a.slots a.largest a.route.now c.in_ok-row.row p.view_is c.in_ok-row.ensures.answer p.invariant)
-
-pub invariant_of-self : goal.invariant_of-self
-invariant_of-self c = sound_after (goal.at.invariant_of-self c).After-push
 
 pub returns-clause-state : goal.returns-clause-state
 returns-clause-state c = search (rules, flows_pushed)
 
 pub returns-clause-sound : goal.returns-clause-sound
-returns-clause-sound c = sound_after (goal.at.returns-clause-sound c).After-push
+returns-clause-sound c =
+    let a = c.args in
+    let p = c.self in
+    search (rules, c.push.ensures.state, reserved_sound p.inside.settings p.inside.rows a.slots a.largest a.route.now c.in_ok-row.row p.view_is c.in_ok-row.ensures.answer p.invariant)
