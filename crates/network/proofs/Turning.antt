@@ -1,7 +1,7 @@
 -- A network whose window shifts: its flows one after the other, and the buffers at once.
 use Rattle.std.proofs.Common.{◌≡◌, ℕ, suc, ◌+◌, ◌<◌, ◌≤◌, Bool, true, false, cond, eqb, ltb, List, [], ◌∷◌, ◌++◌, map, length, get_or, take, drop, set, is_some, sym, refl, ap, ◌∙◌, subst, append_assoc, append-nil, arith}
 use mathlib.Core.Path.{fun_ext}
-use Rattle.std.proofs.lemmas.List.{set_at, drop_more, drop_all, take_all, map_more, length-map, length-take, get_or_at, nil_from_length}
+use Rattle.std.proofs.lemmas.List.{set_at, drop_more, drop_all, take_all, map_more, length-map, length-take, length-append, get_or_at, take-append-drop, nil_from_length}
 use Rattle.std.proofs.lemmas.Bool.{and_from, and_right, eq-eqb, eqb-true, lt-ltb}
 use Rattle.lanes.specs.Rings.{turned}
 use Rattle.lanes.specs.declared.flits.Flit.{Flit}
@@ -10,6 +10,7 @@ use Rattle.sources.proofs.Leaving.{turned as turned_counts}
 use Rattle.sources.specs.Lines.{Line, moved_on, shifted_line}
 use Rattle.running.specs.Cycles.{head_empty, shifted_net}
 use Rattle.running.specs.Nets.{Net, flows, line, route, no_line}
+use Rattle.running.specs.Offers.{with_line, with_lines}
 use Rattle.running.specs.Sounds.{Sound}
 use Rattle.running.proofs.Emptying.{head_empty_tells, no_head_waits, no_head_lies}
 use Rattle.running.proofs.Shifting.{shifted_sound, kept_on}
@@ -26,24 +27,36 @@ long_part ls i l = length-map (take i ls) shifted_line ∙ (omega (arith, length
 up_to_here : (ls : List Line) (i : ℕ) → i < length ls → shifted_up_to ls i ≡ map shifted_line (take i ls) ++ get_or ls i no_line ∷ drop (i + 1) ls
 up_to_here ls i l = ap (λ r. map shifted_line (take i ls) ++ r) (drop_more ls i no_line l)
 
-pub up_to_line : (ls : List Line) (i : ℕ) (d : Line) → i < length ls → get_or (shifted_up_to ls i) i d ≡ get_or ls i no_line
-up_to_line ls i d l = ap (λ q. get_or q i d) (up_to_here ls i l) ∙ get_or_at (map shifted_line (take i ls)) (get_or ls i no_line) (drop (i + 1) ls) d i (long_part ls i (omega arith))
+pub up_to_line : (ls : List Line) (i : ℕ) → i < length ls → get_or (shifted_up_to ls i) i no_line ≡ get_or ls i no_line
+up_to_line ls i l = ap (λ q. get_or q i no_line) (up_to_here ls i l) ∙ get_or_at (map shifted_line (take i ls)) (get_or ls i no_line) (drop (i + 1) ls) no_line i (long_part ls i (omega arith))
 
--- one line more
-pub up_to_more : (ls now : List Line) (i : ℕ) (old new : Line) → i < length ls → now ≡ shifted_up_to ls i → old ≡ get_or now i old → new ≡ shifted_line old →
-    set now i new ≡ shifted_up_to ls (i + 1)
-up_to_more ls now i old new l e h s =
-    ap (set now i) (s ∙ ap shifted_line (h ∙ ap (λ q. get_or q i old) e ∙ up_to_line ls i old l))
-    ∙ ap (λ q. set q i (shifted_line (get_or ls i no_line))) (e ∙ up_to_here ls i l)
+up_to_more : (ls : List Line) (i : ℕ) → i < length ls → set (shifted_up_to ls i) i (shifted_line (get_or ls i no_line)) ≡ shifted_up_to ls (i + 1)
+up_to_more ls i l =
+    ap (λ q. set q i (shifted_line (get_or ls i no_line))) (up_to_here ls i l)
     ∙ set_at (map shifted_line (take i ls)) (get_or ls i no_line) (drop (i + 1) ls) (shifted_line (get_or ls i no_line)) i (long_part ls i (omega arith))
     ∙ sym (append_assoc (map shifted_line (take i ls)) (shifted_line (get_or ls i no_line) ∷ []) (drop (i + 1) ls))
     ∙ ap (λ q. q ++ drop (i + 1) ls) (sym (map_more shifted_line ls i no_line l))
 
-pub up_to_end : (ls now : List Line) (i : ℕ) → length ls ≤ i → now ≡ shifted_up_to ls i → now ≡ map shifted_line ls
-up_to_end ls now i l e =
-    e ∙ ap (λ xs. map shifted_line xs ++ drop i ls) (take_all i ls l)
-    ∙ ap (λ r. map shifted_line ls ++ r) (drop_all i ls l)
-    ∙ append-nil (map shifted_line ls)
+pub same_many : (ls : List Line) (i : ℕ) → length (shifted_up_to ls i) ≡ length ls
+same_many ls i =
+    length-append (map shifted_line (take i ls)) (drop i ls)
+    ∙ ap (λ k. k + length (drop i ls)) (length-map (take i ls) shifted_line)
+    ∙ sym (length-append (take i ls) (drop i ls))
+    ∙ ap length (take-append-drop i ls)
+
+-- the network with one flow more shifted, and with all
+pub one_shifted : (n m m' : Net) (i : ℕ) → i < flows n → m ≡ with_lines n (shifted_up_to n.lines i) → m' ≡ with_line m i (shifted_line (line m i)) →
+    m' ≡ with_lines n (shifted_up_to n.lines (i + 1))
+one_shifted n m m' i l e e' =
+    e' ∙ ap (λ (k : Net). with_line k i (shifted_line (line k i))) e
+    ∙ ap (λ t. with_lines n (set (shifted_up_to n.lines i) i (shifted_line t))) (up_to_line n.lines i l)
+    ∙ ap (with_lines n) (up_to_more n.lines i l)
+
+pub all_shifted : (n : Net) (i : ℕ) → flows n ≤ i → with_lines n (shifted_up_to n.lines i) ≡ with_lines n (map shifted_line n.lines)
+all_shifted n i l =
+    ap (λ ls. with_lines n (map shifted_line ls ++ drop i n.lines)) (take_all i n.lines l)
+    ∙ ap (λ r. with_lines n (map shifted_line n.lines ++ r)) (drop_all i n.lines l)
+    ∙ ap (with_lines n) (append-nil (map shifted_line n.lines))
 
 -- a network whose head frame is empty
 module _ (n : Net) (held : List ℕ) (ok : Sound n held) (none : head_empty n ≡ true) (made : n.head < n.cycles) where

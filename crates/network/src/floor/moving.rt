@@ -46,9 +46,9 @@ impl Floor {
     fn shift_sources(&mut self)
         ensures { net_of self.new ≡ with_lines (net_of self.old) (map shifted_line (net_of self.old).lines) }
     {
-        for source in &mut self.sources[..self.count] {
+        for row in 0..self.count {
             // A source that may not shift stays; where the head frame is empty there is none.
-            let _ = source.shift();
+            let _ = self.sources[row].shift();
         }
     }
 
