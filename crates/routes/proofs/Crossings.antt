@@ -1,9 +1,12 @@
 -- On a route each channel stands at one place: what it is crossed behind, and what it is crossed before.
 use Rattle.std.proofs.Common.{◌≡◌, ℕ, zero, suc, ◌+◌, ◌-◌, ◌<◌, ◌≤◌, Bool, true, false, cond, not, ◌&&◌, eqb, ltb, leb, List, [], ◌∷◌, length, get_or, is_some, Some, None, Option, sym, refl, ap, ◌∙◌, subst, ⊎_elim, arith}
-use Rattle.std.proofs.lemmas.Bool.{and_parts, both_ways, cases_eq, cases_lt, eqb-true, eqb-false, eq-eqb, ne_eqb, ltb-true, lt-ltb, le-ltb, leb-true}
+use Rattle.std.proofs.lemmas.Grind.{common_steps}
+use Rattle.std.proofs.lemmas.Bool.{and_parts, both_ways, cases_eq, cases_lt, eqb-true, eqb-false, eq-eqb, ne_eqb, ltb-true, lt-ltb, le-ltb, leb-true, leb-false}
 use Rattle.std.proofs.lemmas.Bool.Decides.{nat_tests}
 use Rattle.std.proofs.lemmas.List.Quantifiers.{position-Some}
-use Rattle.std.proofs.lemmas.List.Sums.{position_or_len_is}
+use Rattle.std.proofs.lemmas.List.Sums.{position_or_len_is, fails_before_first}
+use Rattle.std.specs.Prelude.{position}
+use Rattle.std.specs.Bool.{then_some}
 use Rattle.std.specs.List.{position_or_len}
 use Rattle.routes.specs.Channels.{few_hops, known, rises, well_formed}
 use Rattle.routes.specs.Crossings.{hop, before_hop, crossing, crossing_at, after_hop, next_channel, first_channel, last_channel}
@@ -55,6 +58,37 @@ hop_at cs h e l =
     let first : position_or_len (λ d. eqb d c) cs ≡ h =
     position_or_len_is (λ d. eqb d c) cs h 0 (omega arith) (λ j b. ne_eqb (get_or cs j 0) c (λ q. omega (arith, rises_at cs j h e b l))) (λ _. eq-eqb c c refl) in
     ap (λ k. cond (ltb k (length cs)) (Some k) None) first ∙ ap (λ b. cond b (Some h) None) (lt-ltb h (length cs) l)
+
+-- the search for the first channel that is not below c: it meets c, or the route does not cross it
+module _ (cs : List ℕ) (c : ℕ) where
+  absent : ((k : ℕ) → k < length cs → eqb (get_or cs k 0) c ≡ false) → hop cs c ≡ None
+  absent h =
+      let none : position_or_len (λ d. eqb d c) cs ≡ length cs = position_or_len_is (λ d. eqb d c) cs (length cs) 0 (omega arith) h (λ l. absurd (omega arith)) in
+      ap (λ k. cond (ltb k (length cs)) (Some k) None) none ∙ ap (λ b. cond b (Some (length cs)) None) (le-ltb (length cs) (length cs) (omega arith))
+
+  pub hop_past : position (λ d. leb c d) cs ≡ None → hop cs c ≡ None
+  hop_past e =
+      let all : length cs ≤ position_or_len (λ d. leb c d) cs = grind (arith, common_steps) in
+      absent (λ k l. ne_eqb (get_or cs k 0) c (λ q. omega (arith, leb-false c (get_or cs k 0) (fails_before_first (λ d. leb c d) cs k 0 (omega arith)))))
+
+  module _ (h : ℕ) (up : rises cs ≡ true) (e : position (λ d. leb c d) cs ≡ Some h) where
+    first : (h < length cs) × (leb c (get_or cs h 0) ≡ true) × ((k : ℕ) → k < h → leb c (get_or cs k 0) ≡ false)
+    first = position-Some (λ d. leb c d) cs h 0 e
+
+    missed : eqb (get_or cs h 0) c ≡ false → (k : ℕ) → k < length cs → eqb (get_or cs k 0) c ≡ false
+    missed q k l =
+        ⊎_elim (λ b. ne_eqb (get_or cs k 0) c (λ r. omega (arith, leb-false c (get_or cs k 0) (first.2 k b))))
+        (λ nb. ⊎_elim (λ r. ap (λ j. eqb (get_or cs j 0) c) r ∙ q)
+        (λ ne. ne_eqb (get_or cs k 0) c (λ r. omega (arith, rises_at cs h k up (omega arith) l, leb-true c (get_or cs h 0) first.1)))
+        (cases_eq k h))
+        (cases_lt k h)
+
+    met : (b : Bool) → eqb (get_or cs h 0) c ≡ b → then_some b h ≡ hop cs c
+    met true q = sym (hop_at cs h up first.0) ∙ ap (hop cs) (eqb-true (get_or cs h 0) c q)
+    met false q = sym (absent (missed q))
+
+    pub hop_met : then_some (eqb (get_or cs h 0) c) h ≡ hop cs c
+    hop_met = met (eqb (get_or cs h 0) c) refl
 
 -- how a hop crosses its channel
 abbrev pub crossing_of : List ℕ → ℕ → Crossing
